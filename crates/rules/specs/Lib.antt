@@ -1,0 +1,4 @@
+pub mod Table
+pub mod Aspects
+pub mod Detection
+pub mod TrackRuns

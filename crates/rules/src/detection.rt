@@ -1,0 +1,70 @@
+// What a track is told and what it answers.
+ghost use mathlib.Core.Path.{_≡_};
+ghost use Rattle.rules.specs.Detection.{state-number, state-word};
+ghost use Rattle.std.specs.declared.option.Option.the-variants.{Some};
+use crate::refusal::Refusal;
+use crate::refusal::RefusalDebug;
+use crate::refusal::RefusalPartialEq;
+use std::fmt;
+
+// A track knows the sections 1 to this one.
+pub const LAST_SECTION: u32 = 24;
+
+// The axles of a train, at least and at most.
+pub const FEWEST_AXLES: u32 = 2;
+
+pub const MOST_AXLES: u32 = 400;
+
+// What a track says of one section.
+#[derive(Clone, Copy, PartialEq, Eq, Debug)]
+pub enum SectionState {
+    Vacant = 0,
+    Occupied = 1,
+    OutOfOrder = 2,
+}
+
+impl SectionState {
+    pub fn number(self) -> u8
+        ensures { λ r. ⌜ r ≡ state-number self ⌝ }
+    {
+        self as u8
+    }
+
+    pub fn word(self) -> &'static str
+        ensures { λ r. ⌜ now r ≡ state-word self ⌝ }
+    {
+        match self {
+            SectionState::Vacant => "vacant",
+            SectionState::Occupied => "occupied",
+            SectionState::OutOfOrder => "out of order",
+        }
+    }
+}
+
+pub impl fmt::Display for SectionState as SectionStateDisplay {
+    ghost shown = { λ x. Some (state-word x) };
+
+    fn fmt<W: fmt::Write>(&self, f: &mut fmt::Formatter<W>) -> fmt::Result {
+        f.write_str(self.word())
+    }
+}
+
+// One call of a track.
+#[derive(Clone, Copy, PartialEq, Eq, Debug)]
+pub enum TrackCall {
+    State { section: u32 },
+    Enter { section: u32, axles: u32 },
+    Leave { section: u32, axles: u32 },
+    Fail { section: u32 },
+    Mend { section: u32 },
+}
+
+// What a track answers to a call.
+#[derive(Clone, Copy, PartialEq, Eq, Debug)]
+pub enum TrackAnswer {
+    // The state that was asked for.
+    Reads(SectionState),
+    // Carried out.
+    Done,
+    TurnedDown(Refusal),
+}

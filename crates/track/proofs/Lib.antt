@@ -1,0 +1,4 @@
+mod Words
+mod Placed
+mod CircuitCells
+mod CounterCells

@@ -1,0 +1,6 @@
+use Rattle.track.specs.Counts.{counter}
+use Rattle.track.proofs.Placed.{cells-length}
+use Rattle.track.proofs.axles.AxleCounterTrack.the-impl.Needs as need
+
+pub sized-law : need.sized-law
+sized-law track = cells-length (counter (track .counts) (track .«out_of_order»))

@@ -1,0 +1,12 @@
+use Rattle.rules.proofs.TrackRuns.{run-on}
+use Rattle.track.proofs.telling.tell.Needs as need
+
+pub returns : need.returns
+returns g c =
+    let ends = c .pass-on .ensures in
+    record {
+      answer = ends .answer;
+      after = ends .after;
+      history = λ start sized calls before.
+          run-on (g .T·Track .mark) start calls (c .args .call) _ _ sized before (ends .after);
+    }

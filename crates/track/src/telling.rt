@@ -1,0 +1,47 @@
+// One call of any track, as an enum in and an enum out.
+ghost use mathlib.Core.Path.{_≡_};
+ghost use mathlib.Core.List.{List, [], _∷_, _++_};
+ghost use lib.ListN.{length};
+ghost use Rattle.rules.specs.Detection.{Cell, track-answer, track-after};
+ghost use Rattle.rules.specs.TrackRuns.{Run, run-after};
+ghost use Rattle.rules.specs.declared.detection.TrackCall.{TrackCall};
+ghost use Rattle.track.specs.Told.{told-of};
+use crate::Track;
+use rules::detection::TrackAnswer;
+use rules::detection::TrackCall;
+use rules::refusal::Refusal;
+
+// Tells the track. Whatever calls came before, over whatever 24 cells, in whatever order: afterwards each section
+// reads what those calls and this one did to it.
+pub fn tell<T: Track>(track: &mut T, call: TrackCall) -> TrackAnswer
+    ensures answer { λ r. ⌜ r ≡ track-answer mark (cells (now (track .entry))) call ⌝ }
+    ensures after { λ _. ⌜ cells (now (track .exit)) ≡ track-after mark (cells (now (track .entry))) call ⌝ }
+    ensures history { λ _. ⌜ ((start : List Cell) → length start ≡ 24 → (calls : List TrackCall) → cells (now (track .entry)) ≡ run-after mark start calls → Run mark start (calls ++ call ∷ []) (cells (now (track .exit)))) ⌝ }
+{
+    pass_on(track, call)
+}
+
+fn pass_on<T: Track>(track: &mut T, call: TrackCall) -> TrackAnswer
+    ensures answer { λ r. ⌜ r ≡ track-answer mark (cells (now (track .entry))) call ⌝ }
+    ensures after { λ _. ⌜ cells (now (track .exit)) ≡ track-after mark (cells (now (track .entry))) call ⌝ }
+{
+    match call {
+        TrackCall::State { section } => match track.state(section) {
+            Ok(state) => TrackAnswer::Reads(state),
+            Err(refusal) => TrackAnswer::TurnedDown(refusal),
+        },
+        TrackCall::Enter { section, axles } => answered(track.enter(section, axles)),
+        TrackCall::Leave { section, axles } => answered(track.leave(section, axles)),
+        TrackCall::Fail { section } => answered(track.fail(section)),
+        TrackCall::Mend { section } => answered(track.mend(section)),
+    }
+}
+
+fn answered(result: Result<(), Refusal>) -> TrackAnswer
+    ensures { λ r. ⌜ r ≡ told-of result ⌝ }
+{
+    match result {
+        Ok(()) => TrackAnswer::Done,
+        Err(refusal) => TrackAnswer::TurnedDown(refusal),
+    }
+}
