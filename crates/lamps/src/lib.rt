@@ -1,7 +1,7 @@
 // Lamps: what a signal shows for the sections that are clear ahead of it.
 ghost use mathlib.Core.Path.{_≡_};
 ghost use Prim.Native.Nat.{ℕ};
-ghost use Rattle.rules.specs.Aspects.{aspect-number, lamp-set-shows, cab-shows};
+ghost use Rattle.rules.specs.Aspects.{aspect-number, lamp-set-shows, cab-shows, Steady};
 ghost use Rattle.rules.specs.declared.aspect.Aspect.{Aspect};
 use rules::aspect::Aspect;
 use rules::aspect::LampSet;
@@ -24,7 +24,10 @@ pub trait Lamps {
 pub impl Lamps for LampSet as LampSetLamps {
     ghost shows = { λ lamps clear metres. lamp-set-shows lamps clear };
 
-    fn aspect(&self, clear: u32, _metres: u32) -> Aspect {
+    fn aspect(&self, clear: u32, _metres: u32) -> Aspect
+        ensures shown { λ r. ⌜ r ≡ lamp-set-shows (now (self .entry)) clear ⌝ }
+        ensures steady { λ _. ⌜ Steady (λ r m. lamp-set-shows (now (self .entry)) r) ⌝ }
+    {
         match (*self, clear) {
             (_, 0) => Aspect::Stop,
             (LampSet::Three | LampSet::Four, 1) => Aspect::Caution,
@@ -44,7 +47,10 @@ pub struct CabSignal;
 pub impl Lamps for CabSignal as CabSignalLamps {
     ghost shows = { λ lamps clear metres. cab-shows clear metres };
 
-    fn aspect(&self, clear: u32, metres: u32) -> Aspect {
+    fn aspect(&self, clear: u32, metres: u32) -> Aspect
+        ensures shown { λ r. ⌜ r ≡ cab-shows clear metres ⌝ }
+        ensures steady { λ _. ⌜ Steady cab-shows ⌝ }
+    {
         match metres {
             _ if clear == 0 => Aspect::Stop,
             ..102 => Aspect::Restricted,

@@ -14,9 +14,10 @@ use Rattle.std.specs.declared.option.Option.{Option}
 use Rattle.std.specs.declared.option.Option.the-variants.{None, Some}
 use Rattle.rules.specs.Table.{Row, topmost, after}
 use Rattle.rules.specs.Detection.{Cell, new-cell, cell-of, with-cell, holding, ordered, state-of, legal-section}
-use Rattle.rules.specs.Detection.{track-rows, track-verdict, track-effect, track-after, track-answer, told, track-result}
+use Rattle.rules.specs.Detection.{track-rows, track-verdict, track-effect, track-after}
+use Rattle.rules.specs.Detection.{told, track-result, track-answer}
 use Rattle.rules.specs.TrackRuns.{run-after, carried-out, came-in, went-out, fitter-says, all-in, all-out, last-said}
-use Rattle.rules.specs.TrackRuns.{reading, Reads-true, Run}
+use Rattle.rules.specs.TrackRuns.{reading, Reads-true, Run, Goes-on}
 use Rattle.rules.specs.declared.detection.SectionState.the-variants.{Vacant, Occupied, OutOfOrder}
 use Rattle.rules.specs.declared.detection.TrackCall.{TrackCall}
 use Rattle.rules.specs.declared.detection.TrackCall.the-variants.{State, Enter, Leave, Fail, Mend}
@@ -31,7 +32,8 @@ in-reach s legal =
 -- one cell changed, read at any section
 one-changed : (cells : List Cell) (t s : ℕ) (change : Cell → Cell) → length cells ≡ 24
     → legal-section t ≡ true → legal-section s ≡ true
-    → cell-of (with-cell cells t (change (cell-of cells t))) s ≡ cond (eqb t s) (change (cell-of cells s)) (cell-of cells s)
+    → cell-of (with-cell cells t (change (cell-of cells t))) s
+    ≡ cond (eqb t s) (change (cell-of cells s)) (cell-of cells s)
 one-changed cells t s change sized legal-t legal-s =
     let low-t = in-reach t legal-t .0 in
     let low-s = in-reach s legal-s .0 in
@@ -47,7 +49,8 @@ one-changed cells t s change sized legal-t legal-s =
     ]
 
 -- what one call does to the number held, and to the order, of one section
-enter-held : (b : Bool) (cell : Cell) (m : ℕ) → cond b (holding cell (cell .held + m)) cell .held + 0 ≡ cell .held + cond b m 0
+enter-held : (b : Bool) (cell : Cell) (m : ℕ)
+    → cond b (holding cell (cell .held + m)) cell .held + 0 ≡ cell .held + cond b m 0
 enter-held true cell m = omega arith
 enter-held false cell m = refl
 
@@ -64,7 +67,8 @@ hold-failed : (b : Bool) (cell : Cell) (m : ℕ) → cond b (holding cell m) cel
 hold-failed true cell m = refl
 hold-failed false cell m = refl
 
-order-failed : (b failed : Bool) (cell : Cell) → cond b (ordered cell failed) cell .failed ≡ cond b failed (cell .failed)
+order-failed : (b failed : Bool) (cell : Cell)
+    → cond b (ordered cell failed) cell .failed ≡ cond b failed (cell .failed)
 order-failed true failed cell = refl
 order-failed false failed cell = refl
 
@@ -88,7 +92,8 @@ turned-down mark cells s (Mend t) refusal sized = record { sized = sized; balanc
 module _ (mark : ℕ → ℕ) (cells : List Cell) (s : ℕ) (sized : length cells ≡ 24) (legal : legal-section s ≡ true) where
   -- a call that changes the cell of section t alone
   at-one : (t : ℕ) (change : Cell → Cell) → not (legal-section t) ≡ false
-      → cell-of (with-cell cells t (change (cell-of cells t))) s ≡ cond (eqb t s) (change (cell-of cells s)) (cell-of cells s)
+      → cell-of (with-cell cells t (change (cell-of cells t))) s
+      ≡ cond (eqb t s) (change (cell-of cells s)) (cell-of cells s)
   at-one t change passed = one-changed cells t s change sized (not-false (legal-section t) passed) legal
 
   still-sized : (t : ℕ) (cell : Cell) → length (with-cell cells t cell) ≡ 24
@@ -138,8 +143,10 @@ module _ (mark : ℕ → ℕ) (cells : List Cell) (s : ℕ) (sized : length cell
     by-verdict (Some refusal) e = turned-down mark cells s call refusal sized
 
 -- over a whole run nothing is lost: what was there and what came in is still there or went out
-balances : (mark : ℕ → ℕ) (cells : List Cell) (calls : List TrackCall) (s : ℕ) → length cells ≡ 24 → legal-section s ≡ true
-    → cell-of (run-after mark cells calls) s .held + all-out mark s cells calls ≡ cell-of cells s .held + all-in mark s cells calls
+balances : (mark : ℕ → ℕ) (cells : List Cell) (calls : List TrackCall) (s : ℕ)
+    → length cells ≡ 24 → legal-section s ≡ true
+    → cell-of (run-after mark cells calls) s .held + all-out mark s cells calls
+    ≡ cell-of cells s .held + all-in mark s cells calls
 balances mark cells [] s sized legal = refl
 balances mark cells (call ∷ calls) s sized legal =
     let now = step mark cells s sized legal call in
@@ -147,7 +154,8 @@ balances mark cells (call ∷ calls) s sized legal =
     omega (arith, now .balance, later)
 
 -- and the order of a section is the fitter's last word on it
-says : (mark : ℕ → ℕ) (cells : List Cell) (calls : List TrackCall) (s : ℕ) → length cells ≡ 24 → legal-section s ≡ true
+says : (mark : ℕ → ℕ) (cells : List Cell) (calls : List TrackCall) (s : ℕ)
+    → length cells ≡ 24 → legal-section s ≡ true
     → cell-of (run-after mark cells calls) s .failed ≡ last-said mark s (cell-of cells s .failed) cells calls
 says mark cells [] s sized legal = refl
 says mark cells (call ∷ calls) s sized legal =
@@ -169,10 +177,9 @@ one-more mark start [] call = refl
 one-more mark start (first ∷ calls) call = one-more mark (track-after mark start first) calls call
 
 -- one call more of a run
-pub run-on : (mark : ℕ → ℕ) (start : List Cell) (calls : List TrackCall) (call : TrackCall) (old new : List Cell)
-    → length start ≡ 24 → old ≡ run-after mark start calls → new ≡ track-after mark old call
-    → Run mark start (calls ++ call ∷ []) new
-run-on mark start calls call old new sized before now =
+pub run-on : (mark : ℕ → ℕ) (old new : List Cell) (call : TrackCall) → new ≡ track-after mark old call
+    → Goes-on mark old call new
+run-on mark old new call now start sized calls before =
     let reached : new ≡ run-after mark start (calls ++ call ∷ []) = now ∙ rw before (one-more mark start calls call) in
     record {
       reached = reached;

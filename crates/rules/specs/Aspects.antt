@@ -1,7 +1,7 @@
 -- Aspects, and what the lamps show for r clear sections ahead that measure m metres.
 use mathlib.Core.Bool.{cond}
 use mathlib.Core.List.{List}
-use Prim.Native.Nat.{ℕ}
+use Prim.Native.Nat.{ℕ, _≤_}
 use lib.Chars.{codes}
 use lib.Dec.{eqb, ltb}
 use Rattle.rules.specs.declared.aspect.Aspect.{Aspect}
@@ -35,3 +35,8 @@ lamp-set-shows Five r =
 abbrev pub cab-shows : ℕ → ℕ → Aspect
 cab-shows r m =
     cond (eqb r 0) Stop (cond (ltb m 102) Restricted (cond (ltb m 212) Caution (cond (ltb m 452) Reduced Clear)))
+
+-- A longer clear way ahead never shows a lower aspect.
+abbrev pub Steady : (ℕ → ℕ → Aspect) → Type 0
+Steady shows = (r more m further : ℕ) → r ≤ more → m ≤ further
+    → aspect-number (shows r m) ≤ aspect-number (shows more further)

@@ -9,7 +9,7 @@ use lib.ListN.{getD, set, replicate}
 use Rattle.std.specs.declared.option.Option.{Option}
 use Rattle.std.specs.declared.option.Option.the-variants.{None, Some}
 use Rattle.std.specs.declared.result.Result.{Result}
-use Rattle.rules.specs.Table.{Row, topmost, answer, outcome, after, within}
+use Rattle.rules.specs.Table.{Row, In-table-order, topmost, answer, outcome, after, within}
 use Rattle.rules.specs.declared.refusal.Refusal.{Refusal}
 use Rattle.rules.specs.declared.refusal.Refusal.the-variants.{NoSection, BadCard, NotClear, SoAlready, WrongMark}
 use Rattle.rules.specs.declared.detection.SectionState.{SectionState}
@@ -96,6 +96,10 @@ track-rows mark cells (Leave section axles) =
     no-section section ∷ bad-axles axles ∷ wrong-mark (cell-of cells section .held) (mark axles) ∷ []
 track-rows mark cells (Fail section) = no-section section ∷ failed-already (cell-of cells section .failed) ∷ []
 track-rows mark cells (Mend section) = no-section section ∷ in-order-already (cell-of cells section .failed) ∷ []
+
+abbrev pub Track-rows-in-table-order : Type 0
+Track-rows-in-table-order =
+    (mark : ℕ → ℕ) (cells : List Cell) (call : TrackCall) → In-table-order (track-rows mark cells call)
 
 -- The cells once a call is carried out: at most the one of its section is another.
 abbrev pub track-effect : (ℕ → ℕ) → List Cell → TrackCall → List Cell

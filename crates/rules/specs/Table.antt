@@ -1,9 +1,10 @@
 -- The turning-down table: each row's number and word, and which row answers a call.
+use mathlib.Core.Path.{_≡_}
 use mathlib.Core.Bool.{Bool, true, false, cond, _&&_}
 use mathlib.Core.List.{List, [], _∷_}
 use Prim.Native.Nat.{ℕ}
 use lib.Chars.{codes}
-use lib.Dec.{leb}
+use lib.Dec.{leb, ltb}
 use Rattle.std.specs.declared.option.Option.{Option}
 use Rattle.std.specs.declared.option.Option.the-variants.{None, Some}
 use Rattle.std.specs.declared.result.Result.{Result}
@@ -77,6 +78,14 @@ Row = Refusal × Bool
 abbrev pub topmost : List Row → Option Refusal
 topmost [] = None
 topmost (row ∷ rows) = cond (row .1) (Some (row .0)) (topmost rows)
+
+-- The rows of a call stand as in the table: each below the one before it.
+abbrev pub below : ℕ → List Row → Bool
+below number [] = true
+below number (row ∷ rows) = ltb number (row-number (row .0)) && below (row-number (row .0)) rows
+
+abbrev pub In-table-order : List Row → Type 0
+In-table-order rows = below 0 rows ≡ true
 
 -- The answer of a call: refused by that row, or the result.
 abbrev pub answer : {X : Type 0} → Option Refusal → X → Result X Refusal

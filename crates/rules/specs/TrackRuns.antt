@@ -1,7 +1,7 @@
 -- Whole runs of a track: any list of calls, and what a section reads after it.
 use mathlib.Core.Path.{_≡_}
 use mathlib.Core.Bool.{Bool, true, false, cond, _&&_}
-use mathlib.Core.List.{List, [], _∷_}
+use mathlib.Core.List.{List, [], _∷_, _++_}
 use Prim.Native.Nat.{ℕ, _+_}
 use lib.Dec.{eqb, ltb}
 use lib.ListN.{length}
@@ -76,7 +76,13 @@ Reads-true mark =
     (start : List Cell) → length start ≡ 24 → (calls : List TrackCall) (s : ℕ) → legal-section s ≡ true
     → state-of (cell-of (run-after mark start calls) s) ≡ reading mark s start calls
 
--- What is certain of a track once a list of calls has led from the cells at the start to the cells now.
+-- What is certain once a list of calls has led from the cells at the start to the cells now.
 pub record Run (mark : ℕ → ℕ) (start : List Cell) (calls : List TrackCall) (cells : List Cell) : Type 0 where
   pub reached : cells ≡ run-after mark start calls
   pub reads : (s : ℕ) → legal-section s ≡ true → state-of (cell-of cells s) ≡ reading mark s start calls
+
+-- One call more: whatever calls came before, over whatever 24 cells, it goes on from them.
+abbrev pub Goes-on : (ℕ → ℕ) → List Cell → TrackCall → List Cell → Type 0
+Goes-on mark old call new =
+    (start : List Cell) → length start ≡ 24 → (calls : List TrackCall) → old ≡ run-after mark start calls
+    → Run mark start (calls ++ call ∷ []) new

@@ -1,6 +1,6 @@
 // What a track is told and what it answers.
 ghost use mathlib.Core.Path.{_≡_};
-ghost use Rattle.rules.specs.Detection.{state-number, state-word};
+ghost use Rattle.rules.specs.Detection.{state-number, state-word, Track-rows-in-table-order};
 ghost use Rattle.std.specs.declared.option.Option.the-variants.{Some};
 use crate::refusal::Refusal;
 use crate::refusal::RefusalDebug;
@@ -68,3 +68,8 @@ pub enum TrackAnswer {
     Done,
     TurnedDown(Refusal),
 }
+
+// The rows that a call of a track can meet are asked in the order of the table.
+pub fn track_rows_in_table_order()
+    ensures { λ _. ⌜ Track-rows-in-table-order ⌝ }
+{}

@@ -15,7 +15,8 @@ use Rattle.std.specs.declared.option.Option.the-variants.{None, Some}
 use Rattle.std.specs.declared.result.Result.{Result}
 use Rattle.std.specs.declared.result.Result.the-variants.{Ok, Err}
 use Rattle.rules.specs.Table.{Row, answer, outcome, topmost}
-use Rattle.rules.specs.Detection.{Cell, Ends, new-cell, cell-of, with-cell, holding, ordered, state-of, state-number, legal-section, legal-axles}
+use Rattle.rules.specs.Detection.{Cell, Ends, new-cell, cell-of, with-cell, holding, ordered}
+use Rattle.rules.specs.Detection.{state-of, state-number, legal-section, legal-axles}
 use Rattle.rules.specs.Detection.{no-section, bad-axles, not-vacant, wrong-mark, failed-already, in-order-already}
 use Rattle.rules.specs.Detection.{track-verdict, track-effect, track-after}
 use Rattle.rules.specs.declared.detection.TrackCall.{TrackCall}
@@ -44,7 +45,9 @@ changed-at f g p h others =
     (λ k l.
     let below : k < 24 = omega (arith, cells-length g) in
     elim (cases-eq k p) [
-      | inl e ↦ rw e (read-at g p h ∙ sym (getD-set-same (cells-by f) p (g p) new-cell (omega (arith, cells-length f))))
+      | inl e ↦
+          let within : p < length (cells-by f) = omega (arith, cells-length f) in
+          rw e (read-at g p h ∙ sym (getD-set-same (cells-by f) p (g p) new-cell within))
       | inr n ↦
           read-at g k below ∙ others k below n
           ∙ sym (getD-set-other (cells-by f) p k (g p) new-cell n ∙ read-at f k below)
@@ -81,8 +84,8 @@ pub vacant-holds-none : (cell : Cell) → Passed (not-vacant (state-of cell)) �
 vacant-holds-none cell free =
     let number = state-number (state-of cell) in
     let passed = lets-through NotClear (not (eqb number 0)) tt tt free .0 in
-    let none = vacant-tests (cell .failed) (ltb 0 (cell .held)) (eqb-true number 0 (not-false (eqb number 0) passed)) in
-    omega (arith, ltb-false 0 (cell .held) none)
+    let at-0 : number ≡ 0 = eqb-true number 0 (not-false (eqb number 0) passed) in
+    omega (arith, ltb-false 0 (cell .held) (vacant-tests (cell .failed) (ltb 0 (cell .held)) at-0))
 
 pub mark-held : (held mark : ℕ) → Passed (wrong-mark held mark) → held ≡ mark
 mark-held held mark h =

@@ -1,4 +1,5 @@
 pub mod Cells
 pub mod Words
 pub mod Counts
+pub mod Kinds
 pub mod Told

@@ -3,7 +3,8 @@ ghost use mathlib.Core.Path.{_≡_};
 ghost use Prim.Native.Nat.{_<_};
 ghost use Rattle.rules.specs.Detection.{state-of, new-cells};
 ghost use Rattle.track.specs.Cells.{cells-by};
-ghost use Rattle.track.specs.Counts.{counted, counter};
+ghost use Rattle.track.specs.Counts.{counted};
+ghost use Rattle.track.specs.Kinds.{counter-at};
 ghost use Rattle.track.specs.declared.axles.AxleCell.the-variants.{Empty, Counting};
 use crate::Track;
 use crate::checks::check_axles;
@@ -56,7 +57,7 @@ pub struct AxleCounter {
 impl AxleCounter {
     // Nothing held, all in order.
     pub fn new() -> Self
-        ensures { λ r. ⌜ cells-by (counter (r .counts) (r .«out_of_order»)) ≡ new-cells ⌝ }
+        ensures { λ r. ⌜ cells-by (counter-at r) ≡ new-cells ⌝ }
     {
         AxleCounter {
             counts: [AxleCell::Empty; CELLS],
@@ -66,14 +67,14 @@ impl AxleCounter {
 
     fn state_at(&self, place: usize) -> SectionState
         requires { ⌜ place < 24 ⌝ }
-        ensures { λ r. ⌜ r ≡ state-of (counter (now (self .entry) .counts) (now (self .entry) .«out_of_order») place) ⌝ }
+        ensures { λ r. ⌜ r ≡ state-of (counter-at (now (self .entry)) place) ⌝ }
     {
         section_state(self.counts[place].axles(), self.out_of_order[place])
     }
 }
 
 pub impl Track for AxleCounter as AxleCounterTrack {
-    ghost cells = { λ track. cells-by (counter (track .counts) (track .«out_of_order»)) };
+    ghost cells = { λ track. cells-by (counter-at track) };
 
     ghost mark = { λ axles. axles };
 

@@ -3,7 +3,7 @@ ghost use mathlib.Core.Path.{_≡_};
 ghost use Prim.Native.Nat.{_<_};
 ghost use Rattle.rules.specs.Detection.{state-of, new-cells};
 ghost use Rattle.track.specs.Cells.{cells-by};
-ghost use Rattle.track.specs.Words.{circuit};
+ghost use Rattle.track.specs.Kinds.{circuit-at};
 use crate::Track;
 use crate::checks::check_axles;
 use crate::checks::check_in_order;
@@ -28,7 +28,7 @@ pub struct TrackCircuits {
 impl TrackCircuits {
     // Nothing held, all in order.
     pub fn new() -> Self
-        ensures { λ r. ⌜ cells-by (circuit (r .held .bits) (r .«out_of_order» .bits)) ≡ new-cells ⌝ }
+        ensures { λ r. ⌜ cells-by (circuit-at r) ≡ new-cells ⌝ }
     {
         TrackCircuits {
             held: SectionWord::empty(),
@@ -38,14 +38,14 @@ impl TrackCircuits {
 
     fn state_at(&self, place: usize) -> SectionState
         requires { ⌜ place < 24 ⌝ }
-        ensures { λ r. ⌜ r ≡ state-of (circuit (now (self .entry) .held .bits) (now (self .entry) .«out_of_order» .bits) place) ⌝ }
+        ensures { λ r. ⌜ r ≡ state-of (circuit-at (now (self .entry)) place) ⌝ }
     {
         section_state(self.held.bit(place), self.out_of_order.has(place))
     }
 }
 
 pub impl Track for TrackCircuits as TrackCircuitsTrack {
-    ghost cells = { λ track. cells-by (circuit (track .held .bits) (track .«out_of_order» .bits)) };
+    ghost cells = { λ track. cells-by (circuit-at track) };
 
     ghost mark = { λ _. 1 };
 

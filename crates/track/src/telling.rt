@@ -1,10 +1,7 @@
 // One call of any track, as an enum in and an enum out.
 ghost use mathlib.Core.Path.{_≡_};
-ghost use mathlib.Core.List.{List, [], _∷_, _++_};
-ghost use lib.ListN.{length};
-ghost use Rattle.rules.specs.Detection.{Cell, track-answer, track-after};
-ghost use Rattle.rules.specs.TrackRuns.{Run, run-after};
-ghost use Rattle.rules.specs.declared.detection.TrackCall.{TrackCall};
+ghost use Rattle.rules.specs.Detection.{track-answer, track-after};
+ghost use Rattle.rules.specs.TrackRuns.{Goes-on};
 ghost use Rattle.track.specs.Told.{told-of};
 use crate::Track;
 use rules::detection::TrackAnswer;
@@ -16,7 +13,7 @@ use rules::refusal::Refusal;
 pub fn tell<T: Track>(track: &mut T, call: TrackCall) -> TrackAnswer
     ensures answer { λ r. ⌜ r ≡ track-answer mark (cells (now (track .entry))) call ⌝ }
     ensures after { λ _. ⌜ cells (now (track .exit)) ≡ track-after mark (cells (now (track .entry))) call ⌝ }
-    ensures history { λ _. ⌜ ((start : List Cell) → length start ≡ 24 → (calls : List TrackCall) → cells (now (track .entry)) ≡ run-after mark start calls → Run mark start (calls ++ call ∷ []) (cells (now (track .exit)))) ⌝ }
+    ensures history { λ _. ⌜ Goes-on mark (cells (now (track .entry))) call (cells (now (track .exit))) ⌝ }
 {
     pass_on(track, call)
 }

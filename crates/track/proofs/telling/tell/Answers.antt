@@ -7,6 +7,5 @@ returns g c =
     record {
       answer = ends .answer;
       after = ends .after;
-      history = λ start sized calls before.
-          run-on (g .T·Track .mark) start calls (c .args .call) _ _ sized before (ends .after);
+      history = run-on (g .T·Track .mark) _ _ (c .args .call) (ends .after);
     }

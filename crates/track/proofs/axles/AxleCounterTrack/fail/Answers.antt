@@ -2,7 +2,7 @@ use mathlib.Core.Path.{refl}
 use mathlib.Core.Bool.{true}
 use borrow.Author.Needs.{needs}
 use Rattle.std.proofs.shelf.Results.{err-from-errBy}
-use Rattle.track.specs.Counts.{counter}
+use Rattle.track.specs.Kinds.{counter-at}
 use Rattle.track.proofs.Placed.{ends-turned-down, fail-verdict, fail-ends}
 use Rattle.track.proofs.CounterCells.{failed-set}
 use Rattle.track.proofs.axles.AxleCounterTrack.fail.Needs as need
@@ -10,7 +10,7 @@ use Rattle.track.proofs.axles.AxleCounterTrack.fail.Needs as need
 pub returns-in-Break-check-in-order : need.returns-in-Break-check-in-order
 returns-in-Break-check-in-order c =
     let self = c .args .self .now in
-    let before = counter (self .counts) (self .«out_of_order») in
+    let before = counter-at self in
     let placed = c .in-Continue-place .ensures tt in
     let broken = c .from-residual-in-Break-check-in-order in
     let met = err-from-errBy (broken .result) (broken .ensures .1) in
@@ -22,7 +22,7 @@ returns-in-Break-check-in-order c =
 pub returns : need.returns
 returns c =
     let self = c .args .self .now in
-    let before = counter (self .counts) (self .«out_of_order») in
+    let before = counter-at self in
     let placed = c .in-Continue-place .ensures tt in
     fail-ends before (c .args .section) _ placed (λ axles. axles) _ refl
     (c .in-Continue-check-in-order .ensures tt)

@@ -1,6 +1,6 @@
-use Rattle.track.specs.Counts.{counter}
+use Rattle.track.specs.Kinds.{counter-at}
 use Rattle.track.proofs.Placed.{cells-length}
 use Rattle.track.proofs.axles.AxleCounterTrack.the-impl.Needs as need
 
 pub sized-law : need.sized-law
-sized-law track = cells-length (counter (track .counts) (track .«out_of_order»))
+sized-law track = cells-length (counter-at track)

@@ -1,5 +1,5 @@
 use Rattle.std.proofs.shelf.Results.{err-from-errBy}
-use Rattle.track.specs.Words.{circuit}
+use Rattle.track.specs.Kinds.{circuit-at}
 use Rattle.track.proofs.Placed.{ends-turned-down, enter-verdict, enter-ends}
 use Rattle.track.proofs.CircuitCells.{held-written}
 use Rattle.track.proofs.circuits.TrackCircuitsTrack.enter.Needs as need
@@ -7,7 +7,7 @@ use Rattle.track.proofs.circuits.TrackCircuitsTrack.enter.Needs as need
 pub returns-in-Break-check-vacant : need.returns-in-Break-check-vacant
 returns-in-Break-check-vacant c =
     let self = c .args .self .now in
-    let before = circuit (self .held .bits) (self .«out_of_order» .bits) in
+    let before = circuit-at self in
     let placed = c .in-Continue-place .ensures tt in
     let axled = c .in-Continue-check-axles .ensures tt in
     let broken = c .from-residual-in-Break-check-vacant in
@@ -20,7 +20,7 @@ returns-in-Break-check-vacant c =
 pub returns : need.returns
 returns c =
     let self = c .args .self .now in
-    let before = circuit (self .held .bits) (self .«out_of_order» .bits) in
+    let before = circuit-at self in
     let placed = c .in-Continue-place .ensures tt in
     let axled = c .in-Continue-check-axles .ensures tt in
     enter-ends before (c .args .section) _ placed (λ _. 1) (c .args .axles) axled _ (c .state-at .ensures)

@@ -1,5 +1,5 @@
 use Rattle.std.proofs.shelf.Results.{err-from-errBy}
-use Rattle.track.specs.Words.{circuit}
+use Rattle.track.specs.Kinds.{circuit-at}
 use Rattle.track.proofs.Placed.{ends-turned-down, fail-verdict, fail-ends}
 use Rattle.track.proofs.CircuitCells.{failed-written}
 use Rattle.track.proofs.circuits.TrackCircuitsTrack.fail.Needs as need
@@ -7,7 +7,7 @@ use Rattle.track.proofs.circuits.TrackCircuitsTrack.fail.Needs as need
 pub returns-in-Break-check-in-order : need.returns-in-Break-check-in-order
 returns-in-Break-check-in-order c =
     let self = c .args .self .now in
-    let before = circuit (self .held .bits) (self .«out_of_order» .bits) in
+    let before = circuit-at self in
     let placed = c .in-Continue-place .ensures tt in
     let broken = c .from-residual-in-Break-check-in-order in
     let met = err-from-errBy (broken .result) (broken .ensures .1) in
@@ -19,7 +19,7 @@ returns-in-Break-check-in-order c =
 pub returns : need.returns
 returns c =
     let self = c .args .self .now in
-    let before = circuit (self .held .bits) (self .«out_of_order» .bits) in
+    let before = circuit-at self in
     let placed = c .in-Continue-place .ensures tt in
     fail-ends before (c .args .section) _ placed (λ _. 1) _ (c .has .ensures)
     (c .in-Continue-check-in-order .ensures tt)

@@ -1,5 +1,5 @@
 use Rattle.std.proofs.shelf.Results.{err-from-errBy}
-use Rattle.track.specs.Words.{circuit}
+use Rattle.track.specs.Kinds.{circuit-at}
 use Rattle.track.proofs.Placed.{ends-turned-down, mend-verdict, mend-ends}
 use Rattle.track.proofs.CircuitCells.{failed-written}
 use Rattle.track.proofs.circuits.TrackCircuitsTrack.mend.Needs as need
@@ -7,7 +7,7 @@ use Rattle.track.proofs.circuits.TrackCircuitsTrack.mend.Needs as need
 pub returns-in-Break-check-out-of-order : need.returns-in-Break-check-out-of-order
 returns-in-Break-check-out-of-order c =
     let self = c .args .self .now in
-    let before = circuit (self .held .bits) (self .«out_of_order» .bits) in
+    let before = circuit-at self in
     let placed = c .in-Continue-place .ensures tt in
     let broken = c .from-residual-in-Break-check-out-of-order in
     let met = err-from-errBy (broken .result) (broken .ensures .1) in
@@ -19,7 +19,7 @@ returns-in-Break-check-out-of-order c =
 pub returns : need.returns
 returns c =
     let self = c .args .self .now in
-    let before = circuit (self .held .bits) (self .«out_of_order» .bits) in
+    let before = circuit-at self in
     let placed = c .in-Continue-place .ensures tt in
     mend-ends before (c .args .section) _ placed (λ _. 1) _ (c .has .ensures)
     (c .in-Continue-check-out-of-order .ensures tt)

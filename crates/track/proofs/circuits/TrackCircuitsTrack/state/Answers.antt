@@ -1,6 +1,6 @@
 use mathlib.Core.Path.{ap, _∙_}
 use Rattle.std.specs.declared.result.Result.the-variants.{Ok}
-use Rattle.track.specs.Words.{circuit}
+use Rattle.track.specs.Kinds.{circuit-at}
 use Rattle.track.proofs.Placed.{state-ends}
 use Rattle.track.proofs.circuits.TrackCircuitsTrack.state.Needs as need
 
@@ -9,4 +9,4 @@ returns c =
     let self = c .args .self .now in
     let placed = c .in-Continue-place .ensures tt in
     ap Ok (c .state-at .ensures)
-    ∙ state-ends (circuit (self .held .bits) (self .«out_of_order» .bits)) (c .args .section) _ placed (λ _. 1)
+    ∙ state-ends (circuit-at self) (c .args .section) _ placed (λ _. 1)

@@ -1,6 +1,6 @@
-use Rattle.track.specs.Words.{circuit}
+use Rattle.track.specs.Kinds.{circuit-at}
 use Rattle.track.proofs.Placed.{cells-length}
 use Rattle.track.proofs.circuits.TrackCircuitsTrack.the-impl.Needs as need
 
 pub sized-law : need.sized-law
-sized-law track = cells-length (circuit (track .held .bits) (track .«out_of_order» .bits))
+sized-law track = cells-length (circuit-at track)
