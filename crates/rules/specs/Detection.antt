@@ -1,7 +1,7 @@
 -- The meaning of a track, and what each of its calls answers and leaves.
 use mathlib.Core.Path.{_≡_}
 use mathlib.Core.Bool.{Bool, true, false, cond, not}
-use mathlib.Core.List.{List, [], _∷_}
+use mathlib.Core.List.{List, [], _∷_, _++_}
 use Prim.Native.Nat.{ℕ, _+_, _-_}
 use lib.Chars.{codes}
 use lib.Dec.{eqb, ltb}
@@ -9,7 +9,8 @@ use lib.ListN.{getD, set, replicate}
 use Rattle.std.specs.declared.option.Option.{Option}
 use Rattle.std.specs.declared.option.Option.the-variants.{None, Some}
 use Rattle.std.specs.declared.result.Result.{Result}
-use Rattle.rules.specs.Table.{Row, In-table-order, topmost, answer, outcome, after, within}
+use Rattle.std.specs.Written.{decimal}
+use Rattle.rules.specs.Table.{Row, row-number, row-word, In-table-order, topmost, answer, outcome, after, within}
 use Rattle.rules.specs.declared.refusal.Refusal.{Refusal}
 use Rattle.rules.specs.declared.refusal.Refusal.the-variants.{NoSection, BadCard, NotClear, SoAlready, WrongMark}
 use Rattle.rules.specs.declared.detection.SectionState.{SectionState}
@@ -142,3 +143,19 @@ told (Some refusal) result = TurnedDown refusal
 
 abbrev pub track-answer : (ℕ → ℕ) → List Cell → TrackCall → TrackAnswer
 track-answer mark cells call = told (track-verdict mark cells call) (track-result cells call)
+
+-- The cases of an answer by number, each with the number of what it holds, and as people read it.
+abbrev pub answer-number : TrackAnswer → ℕ
+answer-number (Reads state) = 0
+answer-number Done = 1
+answer-number (TurnedDown refusal) = 2
+
+abbrev pub answer-value : TrackAnswer → Option ℕ
+answer-value (Reads state) = Some (state-number state)
+answer-value Done = None
+answer-value (TurnedDown refusal) = Some (row-number refusal)
+
+abbrev pub answer-text : TrackAnswer → List ℕ
+answer-text (Reads state) = codes "reads " ++ state-word state
+answer-text Done = codes "ok"
+answer-text (TurnedDown refusal) = codes "no " ++ (decimal (row-number refusal) ++ (codes ", " ++ row-word refusal))

@@ -14,7 +14,8 @@ use Rattle.rules.specs.declared.refusal.Refusal.the-variants.{NotLaid, Laid, B
 use Rattle.rules.specs.declared.refusal.Refusal.the-variants.{NoRoad, BadCard, NumberInUse, NoTrain, ThereAlready}
 use Rattle.rules.specs.declared.refusal.Refusal.the-variants.{FarEndSends, WrongWay, LeverOnLever, LineNotClear, Held}
 use Rattle.rules.specs.declared.refusal.Refusal.the-variants.{NotClear, AtStop, RoadsEnd, NothingBehind, TrainAway}
-use Rattle.rules.specs.declared.refusal.Refusal.the-variants.{StrangeSlip, SoAlready, ShortPanel, WrongMark, Unreadable}
+use Rattle.rules.specs.declared.refusal.Refusal.the-variants.{StrangeSlip, SoAlready, ShortPanel, WrongMark}
+use Rattle.rules.specs.declared.refusal.Refusal.the-variants.{Unreadable}
 
 abbrev pub row-number : Refusal → ℕ
 row-number NotLaid = 1

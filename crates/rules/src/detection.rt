@@ -1,9 +1,11 @@
 // What a track is told and what it answers.
 ghost use mathlib.Core.Path.{_≡_};
 ghost use Rattle.rules.specs.Detection.{state-number, state-word, Track-rows-in-table-order};
+ghost use Rattle.rules.specs.Detection.{answer-number, answer-value, answer-text};
 ghost use Rattle.std.specs.declared.option.Option.the-variants.{Some};
 use crate::refusal::Refusal;
 use crate::refusal::RefusalDebug;
+use crate::refusal::RefusalDisplay;
 use crate::refusal::RefusalPartialEq;
 use std::fmt;
 
@@ -67,6 +69,45 @@ pub enum TrackAnswer {
     // Carried out.
     Done,
     TurnedDown(Refusal),
+}
+
+impl TrackAnswer {
+    // Which of the three it is: 0 reads, 1 done, 2 turned down.
+    pub fn number(self) -> u8
+        ensures { λ r. ⌜ r ≡ answer-number self ⌝ }
+    {
+        match self {
+            TrackAnswer::Reads(_) => 0,
+            TrackAnswer::Done => 1,
+            TrackAnswer::TurnedDown(_) => 2,
+        }
+    }
+
+    // The number of what it holds: the state, or the row.
+    pub fn value(self) -> Option<u8>
+        ensures { λ r. ⌜ r ≡ answer-value self ⌝ }
+    {
+        match self {
+            TrackAnswer::Reads(state) => Some(state.number()),
+            TrackAnswer::Done => None,
+            TrackAnswer::TurnedDown(refusal) => Some(refusal.row()),
+        }
+    }
+}
+
+pub impl fmt::Display for TrackAnswer as TrackAnswerDisplay {
+    ghost shown = { λ x. Some (answer-text x) };
+
+    fn fmt<W: fmt::Write>(&self, f: &mut fmt::Formatter<W>) -> fmt::Result {
+        match *self {
+            TrackAnswer::Reads(state) => write!(f, "reads {state}"),
+            TrackAnswer::Done => f.write_str("ok"),
+            TrackAnswer::TurnedDown(refusal) => {
+                let row = refusal.row();
+                write!(f, "no {row}, {refusal}")
+            }
+        }
+    }
 }
 
 // The rows that a call of a track can meet are asked in the order of the table.

@@ -48,7 +48,7 @@ impl AxleCell {
     }
 }
 
-#[derive(Clone, Copy)]
+#[derive(Drop)]
 pub struct AxleCounter {
     counts: [AxleCell; CELLS],
     out_of_order: [bool; CELLS],

@@ -19,7 +19,7 @@ use rules::refusal::Refusal;
 // What a circuit keeps of a train, however many axles it has.
 const MARK: u32 = 1;
 
-#[derive(Clone, Copy)]
+#[derive(Drop)]
 pub struct TrackCircuits {
     held: SectionWord,
     out_of_order: SectionWord,

@@ -1,8 +1,8 @@
 // Every lamp set at its limits, and the limits of metres of the cab signal.
 use lamps::CabSignal;
 use lamps::CabSignalLamps;
-use lamps::Lamps;
 use lamps::LampSetLamps;
+use lamps::Lamps;
 use rules::aspect::LampSet;
 use std::test::*;
 
@@ -28,7 +28,16 @@ fn lamp_sets_go_by_the_count() -> Result<(), Fail> {
 
 #[test]
 fn cab_signal_goes_by_metres() -> Result<(), Fail> {
-    for (metres, number) in [(0, 1), (101, 1), (102, 2), (211, 2), (212, 3), (451, 3), (452, 4), (u32::MAX, 4)] {
+    for (metres, number) in [
+        (0, 1),
+        (101, 1),
+        (102, 2),
+        (211, 2),
+        (212, 3),
+        (451, 3),
+        (452, 4),
+        (u32::MAX, 4),
+    ] {
         check_eq(CabSignal.aspect(1, metres).number(), number)?;
         check_eq(CabSignal.aspect(0, metres).number(), 0)?;
     }
