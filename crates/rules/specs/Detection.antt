@@ -83,11 +83,8 @@ abbrev pub wrong-mark : ℕ → ℕ → Row
 wrong-mark held mark = (WrongMark, not (eqb held mark))
 
 -- failing wants a section in order, mending one out of order
-abbrev pub in-order-already : Bool → Row
-in-order-already failed = (SoAlready, not failed)
-
-abbrev pub failed-already : Bool → Row
-failed-already failed = (SoAlready, failed)
+abbrev pub so-already : Bool → Bool → Row
+so-already failed wanted = (SoAlready, cond wanted failed (not failed))
 
 abbrev pub track-rows : (ℕ → ℕ) → List Cell → TrackCall → List Row
 track-rows mark cells (State section) = no-section section ∷ []
@@ -95,8 +92,8 @@ track-rows mark cells (Enter section axles) =
     no-section section ∷ bad-axles axles ∷ not-vacant (state-of (cell-of cells section)) ∷ []
 track-rows mark cells (Leave section axles) =
     no-section section ∷ bad-axles axles ∷ wrong-mark (cell-of cells section .held) (mark axles) ∷ []
-track-rows mark cells (Fail section) = no-section section ∷ failed-already (cell-of cells section .failed) ∷ []
-track-rows mark cells (Mend section) = no-section section ∷ in-order-already (cell-of cells section .failed) ∷ []
+track-rows mark cells (Fail section) = no-section section ∷ so-already (cell-of cells section .failed) true ∷ []
+track-rows mark cells (Mend section) = no-section section ∷ so-already (cell-of cells section .failed) false ∷ []
 
 abbrev pub Track-rows-in-table-order : Type 0
 Track-rows-in-table-order =

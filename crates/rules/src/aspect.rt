@@ -20,25 +20,21 @@ impl Aspect {
     {
         self as u8
     }
-
-    pub fn word(self) -> &'static str
-        ensures { λ r. ⌜ now r ≡ aspect-word self ⌝ }
-    {
-        match self {
-            Aspect::Stop => "stop",
-            Aspect::Restricted => "restricted",
-            Aspect::Caution => "caution",
-            Aspect::Reduced => "reduced",
-            Aspect::Clear => "clear",
-        }
-    }
 }
 
 pub impl fmt::Display for Aspect as AspectDisplay {
     ghost shown = { λ x. Some (aspect-word x) };
 
     fn fmt<W: fmt::Write>(&self, f: &mut fmt::Formatter<W>) -> fmt::Result {
-        f.write_str(self.word())
+        f.write_str(
+            match *self {
+                Aspect::Stop => "stop",
+                Aspect::Restricted => "restricted",
+                Aspect::Caution => "caution",
+                Aspect::Reduced => "reduced",
+                Aspect::Clear => "clear",
+            },
+        )
     }
 }
 

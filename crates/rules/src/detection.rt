@@ -31,23 +31,19 @@ impl SectionState {
     {
         self as u8
     }
-
-    pub fn word(self) -> &'static str
-        ensures { λ r. ⌜ now r ≡ state-word self ⌝ }
-    {
-        match self {
-            SectionState::Vacant => "vacant",
-            SectionState::Occupied => "occupied",
-            SectionState::OutOfOrder => "out of order",
-        }
-    }
 }
 
 pub impl fmt::Display for SectionState as SectionStateDisplay {
     ghost shown = { λ x. Some (state-word x) };
 
     fn fmt<W: fmt::Write>(&self, f: &mut fmt::Formatter<W>) -> fmt::Result {
-        f.write_str(self.word())
+        f.write_str(
+            match *self {
+                SectionState::Vacant => "vacant",
+                SectionState::Occupied => "occupied",
+                SectionState::OutOfOrder => "out of order",
+            },
+        )
     }
 }
 

@@ -41,45 +41,40 @@ impl Refusal {
     {
         self as u8
     }
-
-    // The word for people.
-    pub fn word(self) -> &'static str
-        ensures { λ r. ⌜ now r ≡ row-word self ⌝ }
-    {
-        match self {
-            Refusal::NotLaid => "not laid",
-            Refusal::Laid => "laid",
-            Refusal::BadPlan => "bad plan",
-            Refusal::NoStation => "no station",
-            Refusal::NoSection => "no section",
-            Refusal::NoRoad => "no road",
-            Refusal::BadCard => "bad card",
-            Refusal::NumberInUse => "number in use",
-            Refusal::NoTrain => "no train",
-            Refusal::ThereAlready => "there already",
-            Refusal::FarEndSends => "far end sends",
-            Refusal::WrongWay => "wrong way",
-            Refusal::LeverOnLever => "lever on lever",
-            Refusal::LineNotClear => "line not clear",
-            Refusal::Held => "held",
-            Refusal::NotClear => "not clear",
-            Refusal::AtStop => "at stop",
-            Refusal::RoadsEnd => "road's end",
-            Refusal::NothingBehind => "nothing behind",
-            Refusal::TrainAway => "train away",
-            Refusal::StrangeSlip => "strange slip",
-            Refusal::SoAlready => "so already",
-            Refusal::ShortPanel => "short panel",
-            Refusal::WrongMark => "wrong mark",
-            Refusal::Unreadable => "unreadable",
-        }
-    }
 }
 
 pub impl fmt::Display for Refusal as RefusalDisplay {
     ghost shown = { λ x. Some (row-word x) };
 
     fn fmt<W: fmt::Write>(&self, f: &mut fmt::Formatter<W>) -> fmt::Result {
-        f.write_str(self.word())
+        f.write_str(
+            match *self {
+                Refusal::NotLaid => "not laid",
+                Refusal::Laid => "laid",
+                Refusal::BadPlan => "bad plan",
+                Refusal::NoStation => "no station",
+                Refusal::NoSection => "no section",
+                Refusal::NoRoad => "no road",
+                Refusal::BadCard => "bad card",
+                Refusal::NumberInUse => "number in use",
+                Refusal::NoTrain => "no train",
+                Refusal::ThereAlready => "there already",
+                Refusal::FarEndSends => "far end sends",
+                Refusal::WrongWay => "wrong way",
+                Refusal::LeverOnLever => "lever on lever",
+                Refusal::LineNotClear => "line not clear",
+                Refusal::Held => "held",
+                Refusal::NotClear => "not clear",
+                Refusal::AtStop => "at stop",
+                Refusal::RoadsEnd => "road's end",
+                Refusal::NothingBehind => "nothing behind",
+                Refusal::TrainAway => "train away",
+                Refusal::StrangeSlip => "strange slip",
+                Refusal::SoAlready => "so already",
+                Refusal::ShortPanel => "short panel",
+                Refusal::WrongMark => "wrong mark",
+                Refusal::Unreadable => "unreadable",
+            },
+        )
     }
 }

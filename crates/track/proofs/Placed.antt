@@ -17,7 +17,7 @@ use Rattle.std.specs.declared.result.Result.the-variants.{Ok, Err}
 use Rattle.rules.specs.Table.{Row, answer, outcome, topmost}
 use Rattle.rules.specs.Detection.{Cell, Ends, new-cell, cell-of, with-cell, holding, ordered}
 use Rattle.rules.specs.Detection.{state-of, state-number, legal-section, legal-axles}
-use Rattle.rules.specs.Detection.{no-section, bad-axles, not-vacant, wrong-mark, failed-already, in-order-already}
+use Rattle.rules.specs.Detection.{no-section, bad-axles, not-vacant, wrong-mark, so-already}
 use Rattle.rules.specs.Detection.{track-verdict, track-effect, track-after}
 use Rattle.rules.specs.declared.detection.TrackCall.{TrackCall}
 use Rattle.rules.specs.declared.detection.TrackCall.the-variants.{State, Enter, Leave, Fail, Mend}
@@ -138,11 +138,11 @@ module _ (f : ℕ → Cell) (s p : ℕ) (placed : Ok p ≡ answer (topmost (no-s
     leave-verdict n axled held read = rw (legal, axled-legal n axled, here, read)
 
     pub fail-verdict : (failed : Bool) → failed ≡ f p .failed
-        → track-verdict mark (cells-by f) (Fail s) ≡ topmost (failed-already failed ∷ [])
+        → track-verdict mark (cells-by f) (Fail s) ≡ topmost (so-already failed true ∷ [])
     fail-verdict failed read = rw (legal, here, read)
 
     pub mend-verdict : (failed : Bool) → failed ≡ f p .failed
-        → track-verdict mark (cells-by f) (Mend s) ≡ topmost (in-order-already failed ∷ [])
+        → track-verdict mark (cells-by f) (Mend s) ≡ topmost (so-already failed false ∷ [])
     mend-verdict failed read = rw (legal, here, read)
 
     -- carried out, each call makes one cell another
@@ -166,14 +166,14 @@ module _ (f : ℕ → Cell) (s p : ℕ) (placed : Ok p ≡ answer (topmost (no-s
         (changed g (λ cell. holding cell (cell .held - mark n))
         (subst (λ (h : ℕ). p < 24 → Changes f g p (holding (f p) h)) none changes))
 
-    pub fail-ends : (failed : Bool) → failed ≡ f p .failed → Passed (failed-already failed)
+    pub fail-ends : (failed : Bool) → failed ≡ f p .failed → Passed (so-already failed true)
         → (g : ℕ → Cell) → (p < 24 → Changes f g p (ordered (f p) true))
         → Ends mark (cells-by f) (Fail s) (Ok tt) (cells-by g)
     fail-ends failed read unlike g changes =
         ends-carried-out mark (cells-by f) (Fail s) _ (fail-verdict failed read) _ unlike
         (changed g (λ cell. ordered cell true) changes)
 
-    pub mend-ends : (failed : Bool) → failed ≡ f p .failed → Passed (in-order-already failed)
+    pub mend-ends : (failed : Bool) → failed ≡ f p .failed → Passed (so-already failed false)
         → (g : ℕ → Cell) → (p < 24 → Changes f g p (ordered (f p) false))
         → Ends mark (cells-by f) (Mend s) (Ok tt) (cells-by g)
     mend-ends failed read unlike g changes =

@@ -8,9 +8,8 @@ ghost use Rattle.track.specs.Kinds.{counter-at};
 ghost use Rattle.track.specs.declared.axles.AxleCell.the-variants.{Empty, Counting};
 use crate::Track;
 use crate::checks::check_axles;
-use crate::checks::check_in_order;
+use crate::checks::check_changes;
 use crate::checks::check_mark;
-use crate::checks::check_out_of_order;
 use crate::checks::check_vacant;
 use crate::checks::place_of;
 use crate::checks::section_state;
@@ -101,14 +100,14 @@ pub impl Track for AxleCounter as AxleCounterTrack {
 
     fn fail(&mut self, section: u32) -> Result<(), Refusal> {
         let place = place_of(section)?;
-        check_in_order(self.out_of_order[place])?;
+        check_changes(self.out_of_order[place], true)?;
         self.out_of_order[place] = true;
         Ok(())
     }
 
     fn mend(&mut self, section: u32) -> Result<(), Refusal> {
         let place = place_of(section)?;
-        check_out_of_order(self.out_of_order[place])?;
+        check_changes(self.out_of_order[place], false)?;
         self.out_of_order[place] = false;
         Ok(())
     }

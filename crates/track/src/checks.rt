@@ -3,8 +3,7 @@ ghost use mathlib.Core.Path.{_≡_};
 ghost use mathlib.Core.List.{[], _∷_};
 ghost use Prim.Native.Nat.{_-_};
 ghost use Rattle.rules.specs.Table.{answer, outcome, topmost};
-ghost use Rattle.rules.specs.Detection.{state-of, no-section, bad-axles, not-vacant, wrong-mark};
-ghost use Rattle.rules.specs.Detection.{failed-already, in-order-already};
+ghost use Rattle.rules.specs.Detection.{state-of, no-section, bad-axles, not-vacant, wrong-mark, so-already};
 use rules::detection::FEWEST_AXLES;
 use rules::detection::LAST_SECTION;
 use rules::detection::MOST_AXLES;
@@ -60,22 +59,13 @@ pub(crate) fn check_mark(held: u32, mark: u32) -> Result<(), Refusal>
     }
 }
 
-pub(crate) fn check_in_order(out_of_order: bool) -> Result<(), Refusal>
-    ensures { λ r. ⌜ r ≡ outcome (topmost (failed-already «out_of_order» ∷ [])) ⌝ }
+// Whether putting a section out of order, or back in order, would change anything.
+pub(crate) fn check_changes(out_of_order: bool, wanted: bool) -> Result<(), Refusal>
+    ensures { λ r. ⌜ r ≡ outcome (topmost (so-already «out_of_order» wanted ∷ [])) ⌝ }
 {
-    if out_of_order {
+    if out_of_order == wanted {
         Err(Refusal::SoAlready)
     } else {
         Ok(())
-    }
-}
-
-pub(crate) fn check_out_of_order(out_of_order: bool) -> Result<(), Refusal>
-    ensures { λ r. ⌜ r ≡ outcome (topmost (in-order-already «out_of_order» ∷ [])) ⌝ }
-{
-    if out_of_order {
-        Ok(())
-    } else {
-        Err(Refusal::SoAlready)
     }
 }

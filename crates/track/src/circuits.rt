@@ -6,9 +6,8 @@ ghost use Rattle.track.specs.Cells.{cells-by};
 ghost use Rattle.track.specs.Kinds.{circuit-at};
 use crate::Track;
 use crate::checks::check_axles;
-use crate::checks::check_in_order;
+use crate::checks::check_changes;
 use crate::checks::check_mark;
-use crate::checks::check_out_of_order;
 use crate::checks::check_vacant;
 use crate::checks::place_of;
 use crate::checks::section_state;
@@ -72,14 +71,14 @@ pub impl Track for TrackCircuits as TrackCircuitsTrack {
 
     fn fail(&mut self, section: u32) -> Result<(), Refusal> {
         let place = place_of(section)?;
-        check_in_order(self.out_of_order.has(place))?;
+        check_changes(self.out_of_order.has(place), true)?;
         self.out_of_order.add(place);
         Ok(())
     }
 
     fn mend(&mut self, section: u32) -> Result<(), Refusal> {
         let place = place_of(section)?;
-        check_out_of_order(self.out_of_order.has(place))?;
+        check_changes(self.out_of_order.has(place), false)?;
         self.out_of_order.remove(place);
         Ok(())
     }

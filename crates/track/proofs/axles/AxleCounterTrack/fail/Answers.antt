@@ -7,17 +7,17 @@ use Rattle.track.proofs.Placed.{ends-turned-down, fail-verdict, fail-ends}
 use Rattle.track.proofs.CounterCells.{failed-set}
 use Rattle.track.proofs.axles.AxleCounterTrack.fail.Needs as need
 
-pub returns-in-Break-check-in-order : need.returns-in-Break-check-in-order
-returns-in-Break-check-in-order c =
+pub returns-in-Break-check-changes : need.returns-in-Break-check-changes
+returns-in-Break-check-changes c =
     let self = c .args .self .now in
     let before = counter-at self in
     let placed = c .in-Continue-place .ensures tt in
-    let broken = c .from-residual-in-Break-check-in-order in
+    let broken = c .from-residual-in-Break-check-changes in
     let met = err-from-errBy (broken .result) (broken .ensures .1) in
     rw (met .1, met .2)
     (ends-turned-down _ _ _ _
     (fail-verdict before (c .args .section) _ placed (λ axles. axles) _ refl)
-    _ (c .in-Break-check-in-order .ensures tt))
+    _ (c .in-Break-check-changes .ensures tt))
 
 pub returns : need.returns
 returns c =
@@ -25,5 +25,5 @@ returns c =
     let before = counter-at self in
     let placed = c .in-Continue-place .ensures tt in
     fail-ends before (c .args .section) _ placed (λ axles. axles) _ refl
-    (c .in-Continue-check-in-order .ensures tt)
+    (c .in-Continue-check-changes .ensures tt)
     _ (failed-set (self .counts) (self .«out_of_order») _ true (search needs))
