@@ -1,7 +1,7 @@
 // Lamps: what a signal shows for the sections that are clear ahead of it.
 ghost use mathlib.Core.Path.{_≡_};
 ghost use Prim.Native.Nat.{ℕ};
-ghost use Rattle.rules.specs.Aspects.{aspect-number, lamp-set-shows, cab-shows, Steady};
+ghost use Rattle.rules.specs.Aspects.{aspect-number, lamp-set-shows, cab-shows, Never-lower};
 ghost use Rattle.rules.specs.declared.aspect.Aspect.{Aspect};
 use rules::aspect::Aspect;
 use rules::aspect::LampSet;
@@ -26,7 +26,7 @@ pub impl Lamps for LampSet as LampSetLamps {
 
     fn aspect(&self, clear: u32, _metres: u32) -> Aspect
         ensures shown { λ r. ⌜ r ≡ lamp-set-shows (now (self .entry)) clear ⌝ }
-        ensures steady { λ _. ⌜ Steady (λ r m. lamp-set-shows (now (self .entry)) r) ⌝ }
+        ensures never_lower { λ _. ⌜ Never-lower (λ r m. lamp-set-shows (now (self .entry)) r) ⌝ }
     {
         match (*self, clear) {
             (_, 0) => Aspect::Stop,
@@ -49,7 +49,7 @@ pub impl Lamps for CabSignal as CabSignalLamps {
 
     fn aspect(&self, clear: u32, metres: u32) -> Aspect
         ensures shown { λ r. ⌜ r ≡ cab-shows clear metres ⌝ }
-        ensures steady { λ _. ⌜ Steady cab-shows ⌝ }
+        ensures never_lower { λ _. ⌜ Never-lower cab-shows ⌝ }
     {
         match metres {
             _ if clear == 0 => Aspect::Stop,

@@ -1,23 +1,25 @@
--- Every section reads what the run did to it: one call at a time, then over the list.
-use mathlib.Core.Path.{_≡_, refl, sym, ap, subst, _∙_}
-use mathlib.Core.Bool.{Bool, true, false, cond, not, _&&_}
+-- Every section reads what an onlooker has seen of it: shown for one call, then over the list.
+use mathlib.Core.Path.{_≡_, refl, _∙_}
+use mathlib.Core.Bool.{Bool, true, false, cond, not}
 use mathlib.Core.List.{List, [], _∷_, _++_}
 use mathlib.Core.Logic.{inl, inr}
 use Prim.Native.Nat.{ℕ, _+_, _-_, _<_, _≤_}
 use native.Mathlib.Omega.{arith}
 use lib.Dec.{leb, ltb, eqb}
-use lib.ListN.{length, getD, set}
-use Rattle.std.proofs.shelf.Lists.{length-set, getD-set-same, getD-set-other}
-use Rattle.std.proofs.shelf.Tests.{cases-bool, and-parts, leb-true, eqb-true, eqb-false, not-false}
-use Rattle.std.proofs.shelf.Ways.{tells}
+use lib.ListN.{length}
+use Rattle.std.proofs.shelf.Lists.{length-set, getD-set-same, getD-set-other, getD-replicate}
+use Rattle.std.proofs.shelf.Tests.{cases-bool, and-parts, leb-true, ltb-false, eqb-true, eqb-false, not-false, lt-ltb}
+use Rattle.std.specs.Options.{isSome}
 use Rattle.std.specs.declared.option.Option.{Option}
 use Rattle.std.specs.declared.option.Option.the-variants.{None, Some}
-use Rattle.rules.specs.Table.{Row, topmost, after}
-use Rattle.rules.specs.Detection.{Cell, new-cell, cell-of, with-cell, holding, ordered, state-of, legal-section}
+use Rattle.rules.specs.Table.{after}
+use Rattle.rules.specs.Detection.{new-cell, new-cells, cell-of, with-cell, with-held, with-failed}
+use Rattle.rules.specs.Detection.{state-of, state-number, legal-section, legal-axles}
 use Rattle.rules.specs.Detection.{track-rows, track-verdict, track-effect, track-after}
-use Rattle.rules.specs.Detection.{told, track-result, track-answer}
-use Rattle.rules.specs.TrackRuns.{run-after, carried-out, came-in, went-out, fitter-says, all-in, all-out, last-said}
-use Rattle.rules.specs.TrackRuns.{reading, Reads-true, Run, Goes-on}
+use Rattle.rules.specs.Detection.{as-answer, track-result, track-answer}
+use Rattle.rules.specs.TrackRuns.{run-after, transcript, Seen, nothing-seen, see}
+use Rattle.rules.specs.TrackRuns.{see-all, reading, Lawful, Goes-on}
+use Rattle.rules.specs.declared.detection.Cell.{Cell}
 use Rattle.rules.specs.declared.detection.SectionState.the-variants.{Vacant, Occupied, OutOfOrder}
 use Rattle.rules.specs.declared.detection.TrackCall.{TrackCall}
 use Rattle.rules.specs.declared.detection.TrackCall.the-variants.{State, Enter, Leave, Fail, Mend}
@@ -48,128 +50,143 @@ one-changed cells t s change sized legal-t legal-s =
           rw e (getD-set-other cells (t - 1) (s - 1) (change (cell-of cells t)) new-cell (λ h. other (omega arith)))
     ]
 
--- what one call does to the number held, and to the order, of one section
-enter-held : (b : Bool) (cell : Cell) (m : ℕ)
-    → cond b (holding cell (cell .held + m)) cell .held + 0 ≡ cell .held + cond b m 0
-enter-held true cell m = omega arith
-enter-held false cell m = refl
+-- the number that a train inside makes a section hold
+abbrev held-by : (ℕ → ℕ) → Option ℕ → ℕ
+held-by mark None = 0
+held-by mark (Some axles) = mark axles
 
-leave-held : (b : Bool) (cell : Cell) (m : ℕ) → (b ≡ true → cell .held ≡ m)
-    → cond b (holding cell (cell .held - m)) cell .held + cond b m 0 ≡ cell .held + 0
-leave-held true cell m h = omega (arith, h refl)
-leave-held false cell m h = refl
+abbrev legal-train : Option ℕ → Bool
+legal-train None = true
+legal-train (Some axles) = legal-axles axles
 
-order-held : (b failed : Bool) (cell : Cell) → cond b (ordered cell failed) cell .held + 0 ≡ cell .held + 0
-order-held true failed cell = refl
-order-held false failed cell = refl
+-- a cell is as an onlooker must think
+record Agrees (mark : ℕ → ℕ) (cell : Cell) (seen : Seen) : Type 0 where
+  held : cell .held ≡ held-by mark (seen .inside)
+  order : cell .failed ≡ seen .failed
+  legal : legal-train (seen .inside) ≡ true
 
-hold-failed : (b : Bool) (cell : Cell) (m : ℕ) → cond b (holding cell m) cell .failed ≡ cell .failed
-hold-failed true cell m = refl
-hold-failed false cell m = refl
+-- at the section of the call the cell and the onlooker change together, at another neither does
+at-either : (mark : ℕ → ℕ) (b : Bool) (cell : Cell) (seen : Seen) (changed : Cell) (seen-then : Seen)
+    → (b ≡ true → Agrees mark changed seen-then) → Agrees mark cell seen
+    → Agrees mark (cond b changed cell) (cond b seen-then seen)
+at-either mark true cell seen changed seen-then there agrees = there refl
+at-either mark false cell seen changed seen-then there agrees = agrees
 
-order-failed : (b failed : Bool) (cell : Cell)
-    → cond b (ordered cell failed) cell .failed ≡ cond b failed (cell .failed)
-order-failed true failed cell = refl
-order-failed false failed cell = refl
+vacant-tests : (failed held : Bool)
+    → state-number (cond failed OutOfOrder (cond held Occupied Vacant)) ≡ 0 → held ≡ false
+vacant-tests true held h = absurd (omega arith)
+vacant-tests false true h = absurd (omega arith)
+vacant-tests false false h = refl
 
--- what a call does at one section, by the row that turns it down or none
-record Under (mark : ℕ → ℕ) (cells : List Cell) (s : ℕ) (call : TrackCall) (verdict : Option Refusal) : Type 0 where
-  sized : length (after verdict cells (track-effect mark cells call)) ≡ 24
-  balance : cell-of (after verdict cells (track-effect mark cells call)) s .held
-      + went-out mark s call (told verdict (track-result cells call))
-      ≡ cell-of cells s .held + came-in mark s call (told verdict (track-result cells call))
-  order : cell-of (after verdict cells (track-effect mark cells call)) s .failed
-      ≡ fitter-says s (cell-of cells s .failed) call (told verdict (track-result cells call))
+vacant-holds-none : (cell : Cell) → state-number (state-of cell) ≡ 0 → cell .held ≡ 0
+vacant-holds-none cell at-0 =
+    omega (arith, ltb-false 0 (cell .held) (vacant-tests (cell .failed) (ltb 0 (cell .held)) at-0))
 
-turned-down : (mark : ℕ → ℕ) (cells : List Cell) (s : ℕ) (call : TrackCall) (refusal : Refusal) → length cells ≡ 24
-    → Under mark cells s call (Some refusal)
-turned-down mark cells s (State t) refusal sized = record { sized = sized; balance = refl; order = refl }
-turned-down mark cells s (Enter t n) refusal sized = record { sized = sized; balance = refl; order = refl }
-turned-down mark cells s (Leave t n) refusal sized = record { sized = sized; balance = refl; order = refl }
-turned-down mark cells s (Fail t) refusal sized = record { sized = sized; balance = refl; order = refl }
-turned-down mark cells s (Mend t) refusal sized = record { sized = sized; balance = refl; order = refl }
+module _ (mark : ℕ → ℕ) (cells : List Cell) (s : ℕ) (sized : length cells ≡ 24) (in-use : legal-section s ≡ true)
+    (seen : Seen) (agrees : Agrees mark (cell-of cells s) seen) where
+  -- what a call does at one section, by the row that turns it down or none
+  record Under (call : TrackCall) (verdict : Option Refusal) : Type 0 where
+    length-24 : length (after verdict cells (track-effect mark cells call)) ≡ 24
+    agree : Agrees mark (cell-of (after verdict cells (track-effect mark cells call)) s)
+        (see s seen call (as-answer verdict (track-result cells call)))
 
-module _ (mark : ℕ → ℕ) (cells : List Cell) (s : ℕ) (sized : length cells ≡ 24) (legal : legal-section s ≡ true) where
+  turned-down : (call : TrackCall) (refusal : Refusal) → Under call (Some refusal)
+  turned-down (State t) refusal = record { length-24 = sized; agree = agrees }
+  turned-down (Enter t n) refusal = record { length-24 = sized; agree = agrees }
+  turned-down (Leave t n) refusal = record { length-24 = sized; agree = agrees }
+  turned-down (Fail t) refusal = record { length-24 = sized; agree = agrees }
+  turned-down (Mend t) refusal = record { length-24 = sized; agree = agrees }
+
   -- a call that changes the cell of section t alone
-  at-one : (t : ℕ) (change : Cell → Cell) → not (legal-section t) ≡ false
-      → cell-of (with-cell cells t (change (cell-of cells t))) s
-      ≡ cond (eqb t s) (change (cell-of cells s)) (cell-of cells s)
-  at-one t change passed = one-changed cells t s change sized (not-false (legal-section t) passed) legal
+  at-one : (t : ℕ) (change : Cell → Cell) (seen-then : Seen) → not (legal-section t) ≡ false
+      → (t ≡ s → Agrees mark (change (cell-of cells s)) seen-then)
+      → Agrees mark (cell-of (with-cell cells t (change (cell-of cells t))) s) (cond (eqb t s) seen-then seen)
+  at-one t change seen-then passed there =
+      rw (one-changed cells t s change sized (not-false (legal-section t) passed) in-use)
+      (at-either mark (eqb t s) (cell-of cells s) seen (change (cell-of cells s)) seen-then
+      (λ e. there (eqb-true t s e)) agrees)
 
   still-sized : (t : ℕ) (cell : Cell) → length (with-cell cells t cell) ≡ 24
   still-sized t cell = length-set cells (t - 1) cell ∙ sized
 
-  done : (call : TrackCall) → track-verdict mark cells call ≡ None → Under mark cells s call None
-  done (State t) none = record { sized = sized; balance = refl; order = refl }
-  done (Enter t n) none =
+  carried-out : (call : TrackCall) → track-verdict mark cells call ≡ None → Under call None
+  carried-out (State t) none = record { length-24 = sized; agree = agrees }
+  carried-out (Enter t n) none =
       let passed = none-hold (track-rows mark cells (Enter t n)) none in
-      let add : Cell → Cell = λ cell. holding cell (cell .held + mark n) in
-      let there = at-one t add (passed .0) in
+      let add : Cell → Cell = λ cell. with-held cell (cell .held + mark n) in
       record {
-        sized = still-sized t (add (cell-of cells t));
-        balance = rw there (enter-held (eqb t s) (cell-of cells s) (mark n));
-        order = rw there (hold-failed (eqb t s) (cell-of cells s) (cell-of cells s .held + mark n));
+        length-24 = still-sized t (add (cell-of cells t));
+        agree = at-one t add (record { inside = Some n; failed = seen .failed }) (passed .0)
+            (λ same. record {
+              held = let empty = vacant-holds-none (cell-of cells t) (eqb-true _ 0 (not-false _ (passed .1 .1 .0))) in
+                  omega (arith, rw same at empty);
+              order = agrees .order;
+              legal = not-false (legal-axles n) (passed .1 .0);
+            });
       }
-  done (Leave t n) none =
+  carried-out (Leave t n) none =
       let passed = none-hold (track-rows mark cells (Leave t n)) none in
       let marked : cell-of cells t .held ≡ mark n = eqb-true _ _ (not-false _ (passed .1 .1 .0)) in
-      let take : Cell → Cell = λ cell. holding cell (cell .held - mark n) in
-      let there = at-one t take (passed .0) in
+      let take : Cell → Cell = λ cell. with-held cell (cell .held - mark n) in
       record {
-        sized = still-sized t (take (cell-of cells t));
-        balance = rw there (leave-held (eqb t s) (cell-of cells s) (mark n) (λ e. rw (sym (eqb-true t s e)) marked));
-        order = rw there (hold-failed (eqb t s) (cell-of cells s) (cell-of cells s .held - mark n));
+        length-24 = still-sized t (take (cell-of cells t));
+        agree = at-one t take (record { inside = None; failed = seen .failed }) (passed .0)
+            (λ same. record { held = omega (arith, rw same at marked); order = agrees .order; legal = refl });
       }
-  done (Fail t) none =
-      let there = at-one t (λ cell. ordered cell true) (none-hold (track-rows mark cells (Fail t)) none .0) in
+  carried-out (Fail t) none =
+      let passed = none-hold (track-rows mark cells (Fail t)) none in
       record {
-        sized = still-sized t (ordered (cell-of cells t) true);
-        balance = rw there (order-held (eqb t s) true (cell-of cells s));
-        order = rw there (order-failed (eqb t s) true (cell-of cells s));
+        length-24 = still-sized t (with-failed (cell-of cells t) true);
+        agree = at-one t (λ cell. with-failed cell true) (record { inside = seen .inside; failed = true }) (passed .0)
+            (λ same. record { held = agrees .held; order = refl; legal = agrees .legal });
       }
-  done (Mend t) none =
-      let there = at-one t (λ cell. ordered cell false) (none-hold (track-rows mark cells (Mend t)) none .0) in
+  carried-out (Mend t) none =
+      let passed = none-hold (track-rows mark cells (Mend t)) none in
       record {
-        sized = still-sized t (ordered (cell-of cells t) false);
-        balance = rw there (order-held (eqb t s) false (cell-of cells s));
-        order = rw there (order-failed (eqb t s) false (cell-of cells s));
+        length-24 = still-sized t (with-failed (cell-of cells t) false);
+        agree =
+            at-one t (λ cell. with-failed cell false) (record { inside = seen .inside; failed = false }) (passed .0)
+            (λ same. record { held = agrees .held; order = refl; legal = agrees .legal });
       }
 
   -- the verdict as it falls
-  step : (call : TrackCall) → Under mark cells s call (track-verdict mark cells call)
+  step : (call : TrackCall) → Under call (track-verdict mark cells call)
   step call = by-verdict (track-verdict mark cells call) refl where
-    by-verdict : (verdict : Option Refusal) → track-verdict mark cells call ≡ verdict → Under mark cells s call verdict
-    by-verdict None e = done call e
-    by-verdict (Some refusal) e = turned-down mark cells s call refusal sized
+    by-verdict : (verdict : Option Refusal) → track-verdict mark cells call ≡ verdict → Under call verdict
+    by-verdict None e = carried-out call e
+    by-verdict (Some refusal) e = turned-down call refusal
 
--- over a whole run nothing is lost: what was there and what came in is still there or went out
-balances : (mark : ℕ → ℕ) (cells : List Cell) (calls : List TrackCall) (s : ℕ)
-    → length cells ≡ 24 → legal-section s ≡ true
-    → cell-of (run-after mark cells calls) s .held + all-out mark s cells calls
-    ≡ cell-of cells s .held + all-in mark s cells calls
-balances mark cells [] s sized legal = refl
-balances mark cells (call ∷ calls) s sized legal =
-    let now = step mark cells s sized legal call in
-    let later = balances mark (track-after mark cells call) calls s (now .sized) legal in
-    omega (arith, now .balance, later)
+-- over a whole run, cell and onlooker still agree
+agrees-after : (mark : ℕ → ℕ) (cells : List Cell) (calls : List TrackCall) (s : ℕ) (seen : Seen) → length cells ≡ 24
+    → legal-section s ≡ true → Agrees mark (cell-of cells s) seen
+    → Agrees mark (cell-of (run-after mark cells calls) s) (see-all s seen (transcript mark cells calls))
+agrees-after mark cells [] s seen sized in-use agrees = agrees
+agrees-after mark cells (call ∷ calls) s seen sized in-use agrees =
+    let now = step mark cells s sized in-use seen agrees call in
+    agrees-after mark (track-after mark cells call) calls s (see s seen call (track-answer mark cells call))
+    (now .length-24) in-use (now .agree)
 
--- and the order of a section is the fitter's last word on it
-says : (mark : ℕ → ℕ) (cells : List Cell) (calls : List TrackCall) (s : ℕ)
-    → length cells ≡ 24 → legal-section s ≡ true
-    → cell-of (run-after mark cells calls) s .failed ≡ last-said mark s (cell-of cells s .failed) cells calls
-says mark cells [] s sized legal = refl
-says mark cells (call ∷ calls) s sized legal =
-    let now = step mark cells s sized legal call in
-    says mark (track-after mark cells call) calls s (now .sized) legal
-    ∙ ap (λ b. last-said mark s b (track-after mark cells call) calls) (now .order)
+-- what agrees reads alike
+reads-alike : (mark : ℕ → ℕ) → Lawful mark → (cell : Cell) (seen : Seen) → Agrees mark cell seen
+    → state-of cell ≡ reading seen
+reads-alike mark lawful cell seen agrees = by-train (seen .inside) (agrees .held) (agrees .legal) where
+  by-train : (inside : Option ℕ) → cell .held ≡ held-by mark inside → legal-train inside ≡ true
+      → state-of cell ≡ cond (seen .failed) OutOfOrder (cond (isSome inside) Occupied Vacant)
+  by-train None held legal = rw (agrees .order, held)
+  by-train (Some axles) held legal =
+      let above : 0 < cell .held = omega (arith, lawful axles legal, held) in
+      rw (agrees .order, lt-ltb 0 (cell .held) above)
 
--- held is above 0 exactly where more came than went
-above : (held out came : ℕ) → held + out ≡ came → ltb 0 held ≡ ltb out came
-above held out came h = grind (arith, tells)
+new-sized : length new-cells ≡ 24
+unfolding new-cells
+new-sized = refl
 
-pub reads-true : (mark : ℕ → ℕ) → Reads-true mark
-reads-true mark start sized calls s legal =
-    rw (says mark start calls s sized legal, above _ _ _ (balances mark start calls s sized legal))
+new-at : (s : ℕ) → legal-section s ≡ true → cell-of new-cells s ≡ new-cell
+unfolding new-cells
+new-at s legal =
+    let low = in-reach s legal .0 in
+    let high = in-reach s legal .1 in
+    getD-replicate 24 (s - 1) new-cell new-cell (omega arith)
 
 one-more : (mark : ℕ → ℕ) (start : List Cell) (calls : List TrackCall) (call : TrackCall)
     → track-after mark (run-after mark start calls) call ≡ run-after mark start (calls ++ call ∷ [])
@@ -177,11 +194,16 @@ one-more mark start [] call = refl
 one-more mark start (first ∷ calls) call = one-more mark (track-after mark start first) calls call
 
 -- one call more of a run
-pub run-on : (mark : ℕ → ℕ) (old new : List Cell) (call : TrackCall) → new ≡ track-after mark old call
+pub run-on : (mark : ℕ → ℕ) → Lawful mark → (old new : List Cell) (call : TrackCall) → new ≡ track-after mark old call
     → Goes-on mark old call new
-run-on mark old new call now start sized calls before =
-    let reached : new ≡ run-after mark start (calls ++ call ∷ []) = now ∙ rw before (one-more mark start calls call) in
+run-on mark lawful old new call now calls before =
+    let all = calls ++ call ∷ [] in
+    let reached : new ≡ run-after mark new-cells all = now ∙ rw before (one-more mark new-cells calls call) in
     record {
       reached = reached;
-      reads = λ s legal. rw reached (reads-true mark start sized (calls ++ call ∷ []) s legal);
+      reads = λ s legal.
+          let start : Agrees mark (cell-of new-cells s) nothing-seen =
+          rw (new-at s legal) (record { held = refl; order = refl; legal = refl }) in
+          rw reached
+          (reads-alike mark lawful _ _ (agrees-after mark new-cells all s nothing-seen new-sized legal start));
     }

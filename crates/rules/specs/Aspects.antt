@@ -37,6 +37,6 @@ cab-shows r m =
     cond (eqb r 0) Stop (cond (ltb m 102) Restricted (cond (ltb m 212) Caution (cond (ltb m 452) Reduced Clear)))
 
 -- A longer clear way ahead never shows a lower aspect.
-abbrev pub Steady : (ℕ → ℕ → Aspect) → Type 0
-Steady shows = (r more m further : ℕ) → r ≤ more → m ≤ further
+abbrev pub Never-lower : (ℕ → ℕ → Aspect) → Type 0
+Never-lower shows = (r more m further : ℕ) → r ≤ more → m ≤ further
     → aspect-number (shows r m) ≤ aspect-number (shows more further)

@@ -13,6 +13,7 @@ use Rattle.std.specs.Written.{decimal}
 use Rattle.rules.specs.Table.{Row, row-number, row-word, In-table-order, topmost, answer, outcome, after, within}
 use Rattle.rules.specs.declared.refusal.Refusal.{Refusal}
 use Rattle.rules.specs.declared.refusal.Refusal.the-variants.{NoSection, BadCard, NotClear, SoAlready, WrongMark}
+use Rattle.rules.specs.declared.detection.Cell.{Cell}
 use Rattle.rules.specs.declared.detection.SectionState.{SectionState}
 use Rattle.rules.specs.declared.detection.SectionState.the-variants.{Vacant, Occupied, OutOfOrder}
 use Rattle.rules.specs.declared.detection.TrackCall.{TrackCall}
@@ -29,11 +30,6 @@ abbrev pub state-word : SectionState → List ℕ
 state-word Vacant = codes "vacant"
 state-word Occupied = codes "occupied"
 state-word OutOfOrder = codes "out of order"
-
--- What a track means of one section: the number held, and whether it is out of order.
-pub record Cell : Type 0 where
-  pub held : ℕ
-  pub failed : Bool
 
 -- A section with nothing held and in order.
 abbrev pub new-cell : Cell
@@ -54,12 +50,12 @@ abbrev pub state-of : Cell → SectionState
 state-of cell = cond (cell .failed) OutOfOrder (cond (ltb 0 (cell .held)) Occupied Vacant)
 
 -- The cell with the number held changed.
-abbrev pub holding : Cell → ℕ → Cell
-holding cell n = record { held = n; failed = cell .failed }
+abbrev pub with-held : Cell → ℕ → Cell
+with-held cell n = record { held = n; failed = cell .failed }
 
 -- The cell put out of order or back in order: the number held stays.
-abbrev pub ordered : Cell → Bool → Cell
-ordered cell failed = record { held = cell .held; failed = failed }
+abbrev pub with-failed : Cell → Bool → Cell
+with-failed cell failed = record { held = cell .held; failed = failed }
 
 abbrev pub legal-section : ℕ → Bool
 legal-section section = within 1 24 section
@@ -67,7 +63,7 @@ legal-section section = within 1 24 section
 abbrev pub legal-axles : ℕ → Bool
 legal-axles axles = within 2 400 axles
 
--- The rows that each call of a track can meet, from the top.
+-- the rows that a call of a track can meet
 abbrev pub no-section : ℕ → Row
 no-section section = (NoSection, not (legal-section section))
 
@@ -86,6 +82,7 @@ wrong-mark held mark = (WrongMark, not (eqb held mark))
 abbrev pub so-already : Bool → Bool → Row
 so-already failed wanted = (SoAlready, cond wanted failed (not failed))
 
+-- The rows of each call, from the top.
 abbrev pub track-rows : (ℕ → ℕ) → List Cell → TrackCall → List Row
 track-rows mark cells (State section) = no-section section ∷ []
 track-rows mark cells (Enter section axles) =
@@ -99,15 +96,15 @@ abbrev pub Track-rows-in-table-order : Type 0
 Track-rows-in-table-order =
     (mark : ℕ → ℕ) (cells : List Cell) (call : TrackCall) → In-table-order (track-rows mark cells call)
 
--- The cells once a call is carried out: at most the one of its section is another.
+-- The cells once a call is carried out: no cell changes but that of its section.
 abbrev pub track-effect : (ℕ → ℕ) → List Cell → TrackCall → List Cell
 track-effect mark cells (State section) = cells
 track-effect mark cells (Enter section axles) =
-    with-cell cells section (holding (cell-of cells section) (cell-of cells section .held + mark axles))
+    with-cell cells section (with-held (cell-of cells section) (cell-of cells section .held + mark axles))
 track-effect mark cells (Leave section axles) =
-    with-cell cells section (holding (cell-of cells section) (cell-of cells section .held - mark axles))
-track-effect mark cells (Fail section) = with-cell cells section (ordered (cell-of cells section) true)
-track-effect mark cells (Mend section) = with-cell cells section (ordered (cell-of cells section) false)
+    with-cell cells section (with-held (cell-of cells section) (cell-of cells section .held - mark axles))
+track-effect mark cells (Fail section) = with-cell cells section (with-failed (cell-of cells section) true)
+track-effect mark cells (Mend section) = with-cell cells section (with-failed (cell-of cells section) false)
 
 -- What a call that is carried out answers.
 abbrev pub track-result : List Cell → TrackCall → TrackAnswer
@@ -134,12 +131,12 @@ pub record Ends (mark : ℕ → ℕ) (old : List Cell) (call : TrackCall)
   pub after : new ≡ track-after mark old call
 
 -- How a call is answered as one of a list: its result, or turned down.
-abbrev pub told : Option Refusal → TrackAnswer → TrackAnswer
-told None result = result
-told (Some refusal) result = TurnedDown refusal
+abbrev pub as-answer : Option Refusal → TrackAnswer → TrackAnswer
+as-answer None result = result
+as-answer (Some refusal) result = TurnedDown refusal
 
 abbrev pub track-answer : (ℕ → ℕ) → List Cell → TrackCall → TrackAnswer
-track-answer mark cells call = told (track-verdict mark cells call) (track-result cells call)
+track-answer mark cells call = as-answer (track-verdict mark cells call) (track-result cells call)
 
 -- The cases of an answer by number, each with the number of what it holds, and as people read it.
 abbrev pub answer-number : TrackAnswer → ℕ

@@ -1,11 +1,14 @@
--- Whole runs of a track: any list of calls, and what a section reads after it.
+-- Whole runs of a track: any list of calls with its answers, and what a section then reads.
 use mathlib.Core.Path.{_≡_}
 use mathlib.Core.Bool.{Bool, true, false, cond, _&&_}
 use mathlib.Core.List.{List, [], _∷_, _++_}
-use Prim.Native.Nat.{ℕ, _+_}
-use lib.Dec.{eqb, ltb}
-use lib.ListN.{length}
-use Rattle.rules.specs.Detection.{Cell, cell-of, state-of, legal-section, track-after, track-answer}
+use Prim.Native.Nat.{ℕ, _≤_}
+use lib.Dec.{eqb}
+use Rattle.std.specs.Options.{isSome}
+use Rattle.std.specs.declared.option.Option.{Option}
+use Rattle.std.specs.declared.option.Option.the-variants.{None, Some}
+use Rattle.rules.specs.Detection.{new-cells, cell-of, state-of, legal-section, legal-axles, track-after, track-answer}
+use Rattle.rules.specs.declared.detection.Cell.{Cell}
 use Rattle.rules.specs.declared.detection.SectionState.{SectionState}
 use Rattle.rules.specs.declared.detection.SectionState.the-variants.{Vacant, Occupied, OutOfOrder}
 use Rattle.rules.specs.declared.detection.TrackCall.{TrackCall}
@@ -18,71 +21,58 @@ abbrev pub run-after : (ℕ → ℕ) → List Cell → List TrackCall → List C
 run-after mark cells [] = cells
 run-after mark cells (call ∷ calls) = run-after mark (track-after mark cells call) calls
 
+-- the calls, each with its answer
+abbrev pub transcript : (ℕ → ℕ) → List Cell → List TrackCall → List (TrackCall × TrackAnswer)
+transcript mark cells [] = []
+transcript mark cells (call ∷ calls) =
+    (call, track-answer mark cells call) ∷ transcript mark (track-after mark cells call) calls
+
+-- What an onlooker knows of a section who sees calls and answers and no cell: the axles of the train that entered it
+-- and has not left, if there is one, and whether it failed and was not mended.
+pub record Seen : Type 0 where
+  pub inside : Option ℕ
+  pub failed : Bool
+
+abbrev pub nothing-seen : Seen
+nothing-seen = record { inside = None; failed = false }
+
 abbrev pub carried-out : TrackAnswer → Bool
 carried-out (Reads state) = false
 carried-out Done = true
 carried-out (TurnedDown refusal) = false
 
--- the mark that a call and its answer brought into a section
-abbrev pub came-in : (ℕ → ℕ) → ℕ → TrackCall → TrackAnswer → ℕ
-came-in mark s (State section) answer = 0
-came-in mark s (Enter section axles) answer = cond (carried-out answer && eqb section s) (mark axles) 0
-came-in mark s (Leave section axles) answer = 0
-came-in mark s (Fail section) answer = 0
-came-in mark s (Mend section) answer = 0
+-- one call and its answer, seen at section s
+abbrev pub see : ℕ → Seen → TrackCall → TrackAnswer → Seen
+see s seen (State section) answer = seen
+see s seen (Enter section axles) answer =
+    cond (carried-out answer && eqb section s) (record { inside = Some axles; failed = seen .failed }) seen
+see s seen (Leave section axles) answer =
+    cond (carried-out answer && eqb section s) (record { inside = None; failed = seen .failed }) seen
+see s seen (Fail section) answer =
+    cond (carried-out answer && eqb section s) (record { inside = seen .inside; failed = true }) seen
+see s seen (Mend section) answer =
+    cond (carried-out answer && eqb section s) (record { inside = seen .inside; failed = false }) seen
 
--- the mark that they took out of it
-abbrev pub went-out : (ℕ → ℕ) → ℕ → TrackCall → TrackAnswer → ℕ
-went-out mark s (State section) answer = 0
-went-out mark s (Enter section axles) answer = 0
-went-out mark s (Leave section axles) answer = cond (carried-out answer && eqb section s) (mark axles) 0
-went-out mark s (Fail section) answer = 0
-went-out mark s (Mend section) answer = 0
+abbrev pub see-all : ℕ → Seen → List (TrackCall × TrackAnswer) → Seen
+see-all s seen [] = seen
+see-all s seen (step ∷ steps) = see-all s (see s seen (step .0) (step .1)) steps
 
--- whether the fitter's last word on the section was that it failed
-abbrev pub fitter-says : ℕ → Bool → TrackCall → TrackAnswer → Bool
-fitter-says s before (State section) answer = before
-fitter-says s before (Enter section axles) answer = before
-fitter-says s before (Leave section axles) answer = before
-fitter-says s before (Fail section) answer = cond (carried-out answer && eqb section s) true before
-fitter-says s before (Mend section) answer = cond (carried-out answer && eqb section s) false before
+-- What a section must read: out of order from a failing until a mending, whatever trains did meanwhile; otherwise
+-- occupied exactly while the train that entered it has not left.
+abbrev pub reading : Seen → SectionState
+reading seen = cond (seen .failed) OutOfOrder (cond (isSome (seen .inside)) Occupied Vacant)
 
--- the same over a whole run
-abbrev pub all-in : (ℕ → ℕ) → ℕ → List Cell → List TrackCall → ℕ
-all-in mark s cells [] = 0
-all-in mark s cells (call ∷ calls) =
-    came-in mark s call (track-answer mark cells call) + all-in mark s (track-after mark cells call) calls
+-- a mark tells of every legal train that it is there
+abbrev pub Lawful : (ℕ → ℕ) → Type 0
+Lawful mark = (axles : ℕ) → legal-axles axles ≡ true → 1 ≤ mark axles
 
-abbrev pub all-out : (ℕ → ℕ) → ℕ → List Cell → List TrackCall → ℕ
-all-out mark s cells [] = 0
-all-out mark s cells (call ∷ calls) =
-    went-out mark s call (track-answer mark cells call) + all-out mark s (track-after mark cells call) calls
+-- What is certain of a track that was new, once these calls have led to these cells.
+pub record Run (mark : ℕ → ℕ) (calls : List TrackCall) (cells : List Cell) : Type 0 where
+  pub reached : cells ≡ run-after mark new-cells calls
+  pub reads : (s : ℕ) → legal-section s ≡ true
+      → state-of (cell-of cells s) ≡ reading (see-all s nothing-seen (transcript mark new-cells calls))
 
-abbrev pub last-said : (ℕ → ℕ) → ℕ → Bool → List Cell → List TrackCall → Bool
-last-said mark s before cells [] = before
-last-said mark s before cells (call ∷ calls) =
-    last-said mark s (fitter-says s before call (track-answer mark cells call)) (track-after mark cells call) calls
-
--- What a section must read after a run: out of order from a failing until a mending, whatever trains did meanwhile;
--- otherwise occupied exactly while more came in, with what was there at the start, than went out.
-abbrev pub reading : (ℕ → ℕ) → ℕ → List Cell → List TrackCall → SectionState
-reading mark s start calls =
-    cond (last-said mark s (cell-of start s .failed) start calls) OutOfOrder
-    (cond (ltb (all-out mark s start calls) (cell-of start s .held + all-in mark s start calls)) Occupied Vacant)
-
--- Every section reads so, after every list of calls, over whatever 24 cells it began with.
-abbrev pub Reads-true : (ℕ → ℕ) → Type 0
-Reads-true mark =
-    (start : List Cell) → length start ≡ 24 → (calls : List TrackCall) (s : ℕ) → legal-section s ≡ true
-    → state-of (cell-of (run-after mark start calls) s) ≡ reading mark s start calls
-
--- What is certain once a list of calls has led from the cells at the start to the cells now.
-pub record Run (mark : ℕ → ℕ) (start : List Cell) (calls : List TrackCall) (cells : List Cell) : Type 0 where
-  pub reached : cells ≡ run-after mark start calls
-  pub reads : (s : ℕ) → legal-section s ≡ true → state-of (cell-of cells s) ≡ reading mark s start calls
-
--- One call more: whatever calls came before, over whatever 24 cells, it goes on from them.
+-- One call more: whatever calls came before, in whatever order, the run goes on.
 abbrev pub Goes-on : (ℕ → ℕ) → List Cell → TrackCall → List Cell → Type 0
 Goes-on mark old call new =
-    (start : List Cell) → length start ≡ 24 → (calls : List TrackCall) → old ≡ run-after mark start calls
-    → Run mark start (calls ++ call ∷ []) new
+    (calls : List TrackCall) → old ≡ run-after mark new-cells calls → Run mark (calls ++ call ∷ []) new

@@ -1,6 +1,6 @@
 // What a track is told and what it answers.
 ghost use mathlib.Core.Path.{_≡_};
-ghost use Rattle.rules.specs.Detection.{state-number, state-word, Track-rows-in-table-order};
+ghost use Rattle.rules.specs.Detection.{state-number, state-word, state-of, Track-rows-in-table-order};
 ghost use Rattle.rules.specs.Detection.{answer-number, answer-value, answer-text};
 ghost use Rattle.std.specs.declared.option.Option.the-variants.{Some};
 use crate::refusal::Refusal;
@@ -44,6 +44,26 @@ pub impl fmt::Display for SectionState as SectionStateDisplay {
                 SectionState::OutOfOrder => "out of order",
             },
         )
+    }
+}
+
+// What a track means of one section: the number held, and whether it is out of order.
+#[derive(Clone, Copy, PartialEq, Eq, Debug)]
+pub struct Cell {
+    pub held: u32,
+    pub failed: bool,
+}
+
+impl Cell {
+    // A section out of order says so, whatever it holds.
+    pub fn state(self) -> SectionState
+        ensures { λ r. ⌜ r ≡ state-of self ⌝ }
+    {
+        match (self.failed, self.held) {
+            (true, _) => SectionState::OutOfOrder,
+            (false, 0) => SectionState::Vacant,
+            (false, _) => SectionState::Occupied,
+        }
     }
 }
 

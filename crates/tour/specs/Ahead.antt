@@ -6,7 +6,8 @@ use lib.Dec.{eqb}
 use lib.ListN.{take}
 use Rattle.std.specs.shelf.Lists.{sum}
 use Rattle.rules.specs.Aspects.{lamp-set-shows, cab-shows}
-use Rattle.rules.specs.Detection.{Cell, cell-of, state-of, state-number, legal-section}
+use Rattle.rules.specs.Detection.{cell-of, state-of, state-number, legal-section}
+use Rattle.rules.specs.declared.detection.Cell.{Cell}
 use Rattle.rules.specs.declared.aspect.Aspect.{Aspect}
 use Rattle.rules.specs.declared.aspect.LampSet.the-variants.{Two, Three, Four, Five}
 

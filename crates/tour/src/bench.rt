@@ -1,7 +1,7 @@
 // The two kinds of track side by side.
 ghost use mathlib.Core.Path.{_≡_};
-ghost use Rattle.rules.specs.Detection.{new-cells, track-answer};
-ghost use Rattle.tour.specs.Benches.{circuit-cells, counter-cells, one, all, Told};
+ghost use Rattle.rules.specs.Detection.{track-answer};
+ghost use Rattle.tour.specs.Benches.{circuit-cells, counter-cells, circuit-mark, counter-mark, Both-told};
 use rules::detection::TrackAnswer;
 use rules::detection::TrackCall;
 use track::axles::AxleCounter;
@@ -24,22 +24,11 @@ pub struct Both {
 }
 
 impl Bench {
-    // Both new: nothing held, all in order.
-    pub fn new() -> Self
-        ensures circuits { λ r. ⌜ circuit-cells r ≡ new-cells ⌝ }
-        ensures counter { λ r. ⌜ counter-cells r ≡ new-cells ⌝ }
-    {
-        Bench {
-            circuits: TrackCircuits::new(),
-            counter: AxleCounter::new(),
-        }
-    }
-
     // Makes the same call of both.
     pub fn tell(&mut self, call: TrackCall) -> Both
-        ensures circuits { λ r. ⌜ r .circuits ≡ track-answer one (circuit-cells (now (self .entry))) call ⌝ }
-        ensures counter { λ r. ⌜ r .counter ≡ track-answer all (counter-cells (now (self .entry))) call ⌝ }
-        ensures after { λ _. ⌜ Told (now (self .entry)) call (now (self .exit)) ⌝ }
+        ensures circuits { λ r. ⌜ r .circuits ≡ track-answer circuit-mark (circuit-cells (now (self .entry))) call ⌝ }
+        ensures counter { λ r. ⌜ r .counter ≡ track-answer counter-mark (counter-cells (now (self .entry))) call ⌝ }
+        ensures after { λ _. ⌜ Both-told (now (self .entry)) call (now (self .exit)) ⌝ }
     {
         Both {
             circuits: tell(&mut self.circuits, call),

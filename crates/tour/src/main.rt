@@ -10,7 +10,6 @@ mod signal;
 use bench::Bench;
 use passage::PASSAGE;
 use rules::aspect::AspectDisplay;
-use rules::detection::LAST_SECTION;
 use rules::detection::SectionState;
 use rules::detection::TrackAnswer;
 use rules::detection::TrackAnswerDisplay;
@@ -21,7 +20,9 @@ use signal::metres_ahead;
 use signal::vacant_ahead;
 use std::error::AnyError;
 use track::Track;
+use track::axles::AxleCounter;
 use track::axles::AxleCounterTrack;
+use track::circuits::TrackCircuits;
 use track::circuits::TrackCircuitsTrack;
 
 fn symbol(state: SectionState) -> &'static str
@@ -64,10 +65,13 @@ fn draw<T: Track>(
 
 // What the signal before block 1 has ahead of it, and what each kind of lamps shows there.
 fn show_signal<T: Track>(rt: &LibcRuntime, track: &T) -> Result<(), AnyError> {
-    let clear = vacant_ahead(track, BLOCKS);
-    let metres = metres_ahead(clear);
-    let [two, three, four, five, cab] = aspects(clear, metres);
-    println!(rt, "      signal before block 1: {clear} clear, {metres} m")?;
+    let vacant = vacant_ahead(track, BLOCKS);
+    let metres = metres_ahead(vacant);
+    let [two, three, four, five, cab] = aspects(vacant, metres);
+    println!(
+        rt,
+        "      signal before block 1: {vacant} vacant ahead, {metres} m"
+    )?;
     println!(
         rt,
         "      lamps: two {two}, three {three}, four {four}, five {five}; cab {cab}"
@@ -91,7 +95,10 @@ fn tour(rt: &LibcRuntime) -> Result<(), AnyError> {
         rt,
         "Drawn:  .... vacant   #### occupied   !!!! out of order"
     )?;
-    let mut bench = Bench::new();
+    let mut bench = Bench {
+        circuits: TrackCircuits::new(),
+        counter: AxleCounter::new(),
+    };
     let mut number = 0u32;
     for step in PASSAGE {
         number = number.saturating_add(1);
@@ -99,12 +106,6 @@ fn tour(rt: &LibcRuntime) -> Result<(), AnyError> {
         println!(rt, "{number:>3}. {note}")?;
         take_step(rt, &mut bench, step.call)?;
     }
-    let circuits = vacant_ahead(&bench.circuits, LAST_SECTION);
-    let counter = vacant_ahead(&bench.counter, LAST_SECTION);
-    println!(
-        rt,
-        "At the end {circuits} of 24 sections read vacant on the track circuits, {counter} on the axle counter."
-    )?;
     Ok(())
 }
 

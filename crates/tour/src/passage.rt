@@ -9,7 +9,7 @@ pub const ROAD_B: u32 = 21;
 // The axles of train 101, and of a train that is not there.
 const AXLES: u32 = 8;
 
-const OTHERS: u32 = 12;
+const OTHER_AXLES: u32 = 12;
 
 #[derive(Clone, Copy)]
 pub struct Step {
@@ -17,7 +17,7 @@ pub struct Step {
     pub call: TrackCall,
 }
 
-pub const PASSAGE: [Step; 17] = [
+pub const PASSAGE: [Step; 18] = [
     Step {
         note: "Train 101, 8 axles, is put on in road 1 at A",
         call: TrackCall::Enter {
@@ -73,7 +73,7 @@ pub const PASSAGE: [Step; 17] = [
         note: "Another train of 12 axles is reported entering block 2",
         call: TrackCall::Enter {
             section: 2,
-            axles: OTHERS,
+            axles: OTHER_AXLES,
         },
     },
     Step {
@@ -116,7 +116,14 @@ pub const PASSAGE: [Step; 17] = [
         call: TrackCall::State { section: 25 },
     },
     Step {
-        note: "The train is withdrawn at B",
+        note: "A leaving of that road is reported with 12 axles: a circuit cannot tell, the counter can",
+        call: TrackCall::Leave {
+            section: ROAD_B,
+            axles: OTHER_AXLES,
+        },
+    },
+    Step {
+        note: "Train 101 is withdrawn at B: the circuit has lost it already",
         call: TrackCall::Leave {
             section: ROAD_B,
             axles: AXLES,

@@ -13,7 +13,7 @@ use track::Track;
 // The stretch of the tour has blocks 1 to 3.
 pub const BLOCKS: u32 = 3;
 
-// Their metres, so different that the cab signal goes through its aspects.
+// Their metres: one block, two and three give the cab signal three aspects.
 const LENGTHS: [u32; 3] = [100, 150, 250];
 
 fn is_vacant<T: Track>(track: &T, section: u32) -> bool

@@ -1,4 +1,4 @@
 mod Words
-mod Placed
+mod Places
 mod CircuitCells
 mod CounterCells

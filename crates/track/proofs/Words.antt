@@ -2,13 +2,13 @@
 use mathlib.Core.Path.{_≡_, refl, ap, _∙_}
 use mathlib.Core.Bool.{Bool, true, false, cond, _&&_}
 use mathlib.Core.Logic.{inl, inr}
-use Prim.Native.Nat.{ℕ, zero, suc, _+_, _-_, _*_, _/_, _%_, _^_, _<_, _≤_}
+use Prim.Native.Nat.{ℕ, zero, suc, _-_, _/_, _%_, _^_, _<_}
 use native.Mathlib.Omega.{arith}
-use lib.Bits.{bitAnd, bitOr, or-shr, or-mod, and-shr, and-mod, or-zero-r, and-zero-r, and-mask, or-lt, and-le-l}
+use lib.Bits.{bitAnd, bitOr, or-shr, or-mod, and-shr, and-mod, or-zero-r, and-mask, or-lt, and-le-l}
 use lib.Dec.{eqb, ltb}
 use Rattle.std.proofs.shelf.Bits.{mod-below}
 use Rattle.std.proofs.shelf.Tests.{eqb-true, ltb-true, and-parts, cases-order}
-use Rattle.track.specs.Words.{bit}
+use Rattle.track.specs.Words.{bit, one-bit, other-bits, Written}
 
 -- a test at every number below n
 abbrev all-below : ℕ → (ℕ → Bool) → Bool
@@ -23,13 +23,6 @@ at-each (suc n) p all k h =
       | inl e ↦ rw e (parts .0)
       | inr o ↦ elim o [ inl l ↦ at-each n p (parts .1) k l | inr g ↦ absurd (omega arith) ]
     ]
-
--- the masks as the code makes them: the bit at a place alone, and every other bit
-abbrev pub one-bit : ℕ → ℕ
-one-bit place = (1 * 2 ^ place) % 4294967296
-
-abbrev pub other-bits : ℕ → ℕ
-other-bits place = 4294967295 - one-bit place
 
 one-bit-bit : (p k : ℕ) → p < 24 → k < 24 → bit (one-bit p) k ≡ cond (eqb k p) 1 0
 one-bit-bit p k hp hk =
@@ -65,14 +58,14 @@ bit-below w k = mod-below (w / 2 ^ k) 2 (omega arith)
 pub bit-tested : (w p : ℕ) → bitAnd (w / 2 ^ p) 1 ≡ bit w p
 bit-tested w p = and-mask (w / 2 ^ p) 1
 
-pub bit-added : (w p : ℕ) → p < 24 → (k : ℕ) → k < 24 → bit (bitOr w (one-bit p)) k ≡ cond (eqb k p) 1 (bit w k)
+bit-added : (w p : ℕ) → p < 24 → (k : ℕ) → k < 24 → bit (bitOr w (one-bit p)) k ≡ cond (eqb k p) 1 (bit w k)
 bit-added w p hp k hk =
     ap (λ n. n % 2) (or-shr w (one-bit p) k)
     ∙ or-mod (w / 2 ^ k) (one-bit p / 2 ^ k) 1
     ∙ ap (bitOr (bit w k)) (one-bit-bit p k hp hk)
     ∙ or-digit (bit w k) (eqb k p) (bit-below w k)
 
-pub bit-removed : (w p : ℕ) → p < 24 → (k : ℕ) → k < 24 → bit (bitAnd w (other-bits p)) k ≡ cond (eqb k p) 0 (bit w k)
+bit-removed : (w p : ℕ) → p < 24 → (k : ℕ) → k < 24 → bit (bitAnd w (other-bits p)) k ≡ cond (eqb k p) 0 (bit w k)
 bit-removed w p hp k hk =
     ap (λ n. n % 2) (and-shr w (other-bits p) k)
     ∙ and-mod (w / 2 ^ k) (other-bits p / 2 ^ k) 1
@@ -82,8 +75,12 @@ bit-removed w p hp k hk =
 one-bit-below : (p : ℕ) → p < 24 → one-bit p < 16777216
 one-bit-below p h = ltb-true (one-bit p) 16777216 (at-each 24 (λ q. ltb (one-bit q) 16777216) refl p h)
 
-pub added-keeps : (w p : ℕ) → w < 16777216 → p < 24 → bitOr w (one-bit p) < 16777216
-added-keeps w p hw hp = or-lt 24 w (one-bit p) hw (one-bit-below p hp)
+pub put-written : (w p : ℕ) (set : Bool) → p < 24
+    → Written w p (cond set 1 0) (cond set (bitOr w (one-bit p)) (bitAnd w (other-bits p)))
+put-written w p true h = bit-added w p h
+put-written w p false h = bit-removed w p h
 
-pub removed-keeps : (w p : ℕ) → w < 16777216 → bitAnd w (other-bits p) < 16777216
-removed-keeps w p h = omega (arith, and-le-l w (other-bits p))
+pub put-keeps : (w p : ℕ) (set : Bool) → w < 16777216 → p < 24
+    → cond set (bitOr w (one-bit p)) (bitAnd w (other-bits p)) < 16777216
+put-keeps w p true hw hp = or-lt 24 w (one-bit p) hw (one-bit-below p hp)
+put-keeps w p false hw hp = omega (arith, and-le-l w (other-bits p))

@@ -3,7 +3,7 @@ use mathlib.Core.Bool.{Bool, false}
 use mathlib.Core.List.{List}
 use Prim.Native.Nat.{ℕ}
 use lib.ListN.{getD}
-use Rattle.rules.specs.Detection.{Cell}
+use Rattle.rules.specs.declared.detection.Cell.{Cell}
 use Rattle.track.specs.declared.axles.AxleCell.{AxleCell}
 use Rattle.track.specs.declared.axles.AxleCell.the-variants.{Empty, Counting}
 

@@ -2,4 +2,4 @@ pub mod Cells
 pub mod Words
 pub mod Counts
 pub mod Kinds
-pub mod Told
+pub mod Answered

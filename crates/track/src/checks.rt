@@ -1,9 +1,12 @@
-// What every kind of track asks before it does anything.
+// What every kind of track asks before it acts: one function for each row.
 ghost use mathlib.Core.Path.{_≡_};
+ghost use mathlib.Core.Bool.{true};
 ghost use mathlib.Core.List.{[], _∷_};
 ghost use Prim.Native.Nat.{_-_};
+ghost use Rattle.std.specs.Results.{isOk};
 ghost use Rattle.rules.specs.Table.{answer, outcome, topmost};
 ghost use Rattle.rules.specs.Detection.{state-of, no-section, bad-axles, not-vacant, wrong-mark, so-already};
+use rules::detection::Cell;
 use rules::detection::FEWEST_AXLES;
 use rules::detection::LAST_SECTION;
 use rules::detection::MOST_AXLES;
@@ -29,28 +32,20 @@ pub(crate) fn check_axles(axles: u32) -> Result<(), Refusal>
     }
 }
 
-// A section out of order says so, whatever it holds.
-pub(crate) fn section_state(held: u32, out_of_order: bool) -> SectionState
-    ensures { λ r. ⌜ r ≡ state-of record { held = held; failed = «out_of_order» } ⌝ }
+// A vacant section holds nothing.
+pub(crate) fn check_vacant(cell: Cell) -> Result<(), Refusal>
+    ensures verdict { λ r. ⌜ r ≡ outcome (topmost (not-vacant (state-of cell) ∷ [])) ⌝ }
+    ensures none { λ r. ⌜ (isOk r ≡ true → cell .held ≡ 0) ⌝ }
 {
-    match (out_of_order, held) {
-        (true, _) => SectionState::OutOfOrder,
-        (false, 0) => SectionState::Vacant,
-        (false, _) => SectionState::Occupied,
-    }
-}
-
-pub(crate) fn check_vacant(state: SectionState) -> Result<(), Refusal>
-    ensures { λ r. ⌜ r ≡ outcome (topmost (not-vacant state ∷ [])) ⌝ }
-{
-    match state {
+    match cell.state() {
         SectionState::Vacant => Ok(()),
         SectionState::Occupied | SectionState::OutOfOrder => Err(Refusal::NotClear),
     }
 }
 
 pub(crate) fn check_mark(held: u32, mark: u32) -> Result<(), Refusal>
-    ensures { λ r. ⌜ r ≡ outcome (topmost (wrong-mark held mark ∷ [])) ⌝ }
+    ensures verdict { λ r. ⌜ r ≡ outcome (topmost (wrong-mark held mark ∷ [])) ⌝ }
+    ensures same { λ r. ⌜ (isOk r ≡ true → held ≡ mark) ⌝ }
 {
     if held == mark {
         Ok(())
@@ -60,10 +55,10 @@ pub(crate) fn check_mark(held: u32, mark: u32) -> Result<(), Refusal>
 }
 
 // Whether putting a section out of order, or back in order, would change anything.
-pub(crate) fn check_changes(out_of_order: bool, wanted: bool) -> Result<(), Refusal>
-    ensures { λ r. ⌜ r ≡ outcome (topmost (so-already «out_of_order» wanted ∷ [])) ⌝ }
+pub(crate) fn check_changes(failed: bool, wanted: bool) -> Result<(), Refusal>
+    ensures { λ r. ⌜ r ≡ outcome (topmost (so-already failed wanted ∷ [])) ⌝ }
 {
-    if out_of_order == wanted {
+    if failed == wanted {
         Err(Refusal::SoAlready)
     } else {
         Ok(())

@@ -1,17 +1,18 @@
 // Track circuits: two words of 24 bits, held and out of order. They keep of a train that it is there.
 ghost use mathlib.Core.Path.{_≡_};
+ghost use mathlib.Core.Bool.{cond};
 ghost use Prim.Native.Nat.{_<_};
-ghost use Rattle.rules.specs.Detection.{state-of, new-cells};
-ghost use Rattle.track.specs.Cells.{cells-by};
-ghost use Rattle.track.specs.Kinds.{circuit-at};
+ghost use Rattle.rules.specs.Detection.{new-cells};
+ghost use Rattle.track.specs.Cells.{cell-at, set-held, set-failed};
+ghost use Rattle.track.specs.Kinds.{circuit-at, circuit-cells};
 use crate::Track;
 use crate::checks::check_axles;
 use crate::checks::check_changes;
 use crate::checks::check_mark;
 use crate::checks::check_vacant;
 use crate::checks::place_of;
-use crate::checks::section_state;
 use crate::word::SectionWord;
+use rules::detection::Cell;
 use rules::detection::SectionState;
 use rules::refusal::Refusal;
 
@@ -27,7 +28,7 @@ pub struct TrackCircuits {
 impl TrackCircuits {
     // Nothing held, all in order.
     pub fn new() -> Self
-        ensures { λ r. ⌜ cells-by (circuit-at r) ≡ new-cells ⌝ }
+        ensures { λ r. ⌜ circuit-cells r ≡ new-cells ⌝ }
     {
         TrackCircuits {
             held: SectionWord::empty(),
@@ -35,51 +36,77 @@ impl TrackCircuits {
         }
     }
 
-    fn state_at(&self, place: usize) -> SectionState
+    fn read(&self, place: usize) -> Cell
         requires { ⌜ place < 24 ⌝ }
-        ensures { λ r. ⌜ r ≡ state-of (circuit-at (now (self .entry)) place) ⌝ }
+        ensures { λ r. ⌜ r ≡ circuit-at (now (self .entry)) place ⌝ }
     {
-        section_state(self.held.bit(place), self.out_of_order.has(place))
+        Cell {
+            held: self.held.bit(place),
+            failed: self.out_of_order.bit(place) == 1,
+        }
+    }
+
+    fn cell(&self, place: usize) -> Cell
+        requires { ⌜ place < 24 ⌝ }
+        ensures { λ r. ⌜ r ≡ cell-at (circuit-cells (now (self .entry))) place ⌝ }
+    {
+        self.read(place)
+    }
+
+    fn put_held(&mut self, place: usize, held: bool)
+        requires { ⌜ place < 24 ⌝ }
+        ensures { λ _. ⌜ circuit-cells (now (self .exit))
+            ≡ set-held (circuit-cells (now (self .entry))) place (cond held 1 0) ⌝ }
+    {
+        self.held.put(place, held);
+    }
+
+    fn put_failed(&mut self, place: usize, failed: bool)
+        requires { ⌜ place < 24 ⌝ }
+        ensures { λ _. ⌜ circuit-cells (now (self .exit))
+            ≡ set-failed (circuit-cells (now (self .entry))) place failed ⌝ }
+    {
+        self.out_of_order.put(place, failed);
     }
 }
 
 pub impl Track for TrackCircuits as TrackCircuitsTrack {
-    ghost cells = { λ track. cells-by (circuit-at track) };
+    ghost cells = { λ track. circuit-cells track };
 
     ghost mark = { λ _. 1 };
 
     fn state(&self, section: u32) -> Result<SectionState, Refusal> {
         let place = place_of(section)?;
-        Ok(self.state_at(place))
+        Ok(self.cell(place).state())
     }
 
     fn enter(&mut self, section: u32, axles: u32) -> Result<(), Refusal> {
         let place = place_of(section)?;
         check_axles(axles)?;
-        check_vacant(self.state_at(place))?;
-        self.held.add(place);
+        check_vacant(self.cell(place))?;
+        self.put_held(place, true);
         Ok(())
     }
 
     fn leave(&mut self, section: u32, axles: u32) -> Result<(), Refusal> {
         let place = place_of(section)?;
         check_axles(axles)?;
-        check_mark(self.held.bit(place), MARK)?;
-        self.held.remove(place);
+        check_mark(self.cell(place).held, MARK)?;
+        self.put_held(place, false);
         Ok(())
     }
 
     fn fail(&mut self, section: u32) -> Result<(), Refusal> {
         let place = place_of(section)?;
-        check_changes(self.out_of_order.has(place), true)?;
-        self.out_of_order.add(place);
+        check_changes(self.cell(place).failed, true)?;
+        self.put_failed(place, true);
         Ok(())
     }
 
     fn mend(&mut self, section: u32) -> Result<(), Refusal> {
         let place = place_of(section)?;
-        check_changes(self.out_of_order.has(place), false)?;
-        self.out_of_order.remove(place);
+        check_changes(self.cell(place).failed, false)?;
+        self.put_failed(place, false);
         Ok(())
     }
 }

@@ -2,14 +2,14 @@
 ghost use mathlib.Core.Path.{_≡_};
 ghost use Rattle.rules.specs.Detection.{track-answer, track-after};
 ghost use Rattle.rules.specs.TrackRuns.{Goes-on};
-ghost use Rattle.track.specs.Told.{told-of};
+ghost use Rattle.track.specs.Answered.{answered-by};
 use crate::Track;
 use rules::detection::TrackAnswer;
 use rules::detection::TrackCall;
 use rules::refusal::Refusal;
 
-// Tells the track. Whatever calls came before, over whatever 24 cells, in whatever order: afterwards each section
-// reads what those calls and this one did to it.
+// Tells the track. Of a track that was new, whatever calls came before and in whatever order: afterwards each section
+// reads what an onlooker to those calls and this one must think of it.
 pub fn tell<T: Track>(track: &mut T, call: TrackCall) -> TrackAnswer
     ensures answer { λ r. ⌜ r ≡ track-answer mark (cells (now (track .entry))) call ⌝ }
     ensures after { λ _. ⌜ cells (now (track .exit)) ≡ track-after mark (cells (now (track .entry))) call ⌝ }
@@ -18,6 +18,7 @@ pub fn tell<T: Track>(track: &mut T, call: TrackCall) -> TrackAnswer
     pass_on(track, call)
 }
 
+// The same without the history, which would otherwise be owed once an arm.
 fn pass_on<T: Track>(track: &mut T, call: TrackCall) -> TrackAnswer
     ensures answer { λ r. ⌜ r ≡ track-answer mark (cells (now (track .entry))) call ⌝ }
     ensures after { λ _. ⌜ cells (now (track .exit)) ≡ track-after mark (cells (now (track .entry))) call ⌝ }
@@ -35,7 +36,7 @@ fn pass_on<T: Track>(track: &mut T, call: TrackCall) -> TrackAnswer
 }
 
 fn answered(result: Result<(), Refusal>) -> TrackAnswer
-    ensures { λ r. ⌜ r ≡ told-of result ⌝ }
+    ensures { λ r. ⌜ r ≡ answered-by result ⌝ }
 {
     match result {
         Ok(()) => TrackAnswer::Done,

@@ -1,9 +1,9 @@
-use mathlib.Core.Path.{_≡_, sym, ap, subst, _∙_}
+use mathlib.Core.Path.{_≡_, subst}
 use mathlib.Core.Bool.{Bool, true, false, cond}
 use mathlib.Core.List.{List}
 use Prim.Native.Nat.{ℕ, suc, _+_, _-_}
 use native.Mathlib.Omega.{arith}
-use Rattle.rules.specs.Detection.{Cell}
+use Rattle.rules.specs.declared.detection.Cell.{Cell}
 use Rattle.tour.specs.Ahead.{reads-vacant, vacant-from}
 use Rattle.tour.proofs.signal.vacant_ahead.Needs as need
 

@@ -7,5 +7,5 @@ returns g c =
     record {
       answer = ends .answer;
       after = ends .after;
-      history = run-on (g .T·Track .mark) _ _ (c .args .call) (ends .after);
+      history = run-on (g .T·Track .mark) (g .T·Track·met .marked) _ _ (c .args .call) (ends .after);
     }

@@ -1,4 +1,3 @@
-use mathlib.Core.Path.{refl}
 use Rattle.rules.specs.Detection.{new-cells}
 use Rattle.track.specs.Cells.{cells-by}
 use Rattle.track.proofs.circuits.TrackCircuits.new.Needs as need
