@@ -116,7 +116,7 @@ pub const PASSAGE: [Step; 18] = [
         call: TrackCall::State { section: 25 },
     },
     Step {
-        note: "A leaving of that road is reported with 12 axles: a circuit cannot tell, the counter can",
+        note: "A leaving of road 1 at B is reported with 12 axles: a circuit cannot tell, the counter can",
         call: TrackCall::Leave {
             section: ROAD_B,
             axles: OTHER_AXLES,
