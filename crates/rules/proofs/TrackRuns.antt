@@ -26,13 +26,13 @@ use Rattle.rules.specs.declared.detection.TrackCall.the-variants.{State, Enter
 use Rattle.rules.specs.declared.refusal.Refusal.{Refusal}
 use Rattle.rules.proofs.Rows.{none-hold}
 
-in-reach : (s : ℕ) → legal-section s ≡ true → (1 ≤ s) × (s ≤ 24)
+pub in-reach : (s : ℕ) → legal-section s ≡ true → (1 ≤ s) × (s ≤ 24)
 in-reach s legal =
     let both = and-parts (leb 1 s) (leb s 24) legal in
     (leb-true 1 s (both .0), leb-true s 24 (both .1))
 
 -- one cell changed, read at any section
-one-changed : (cells : List Cell) (t s : ℕ) (change : Cell → Cell) → length cells ≡ 24
+pub one-changed : (cells : List Cell) (t s : ℕ) (change : Cell → Cell) → length cells ≡ 24
     → legal-section t ≡ true → legal-section s ≡ true
     → cell-of (with-cell cells t (change (cell-of cells t))) s
     ≡ cond (eqb t s) (change (cell-of cells s)) (cell-of cells s)
@@ -78,7 +78,7 @@ vacant-tests true held h = absurd (omega arith)
 vacant-tests false true h = absurd (omega arith)
 vacant-tests false false h = refl
 
-vacant-holds-none : (cell : Cell) → state-number (state-of cell) ≡ 0 → cell .held ≡ 0
+pub vacant-holds-none : (cell : Cell) → state-number (state-of cell) ≡ 0 → cell .held ≡ 0
 vacant-holds-none cell at-0 =
     omega (arith, ltb-false 0 (cell .held) (vacant-tests (cell .failed) (ltb 0 (cell .held)) at-0))
 

@@ -2,3 +2,10 @@ pub mod Table
 pub mod Aspects
 pub mod Detection
 pub mod TrackRuns
+pub mod Stations
+pub mod Lines
+pub mod Signals
+pub mod Searches
+pub mod Calls
+pub mod Panels
+pub mod LineRuns

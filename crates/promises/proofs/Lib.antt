@@ -1,0 +1,15 @@
+pub mod TableRows
+pub mod OneWay
+pub mod Occupation
+pub mod Fits
+pub mod Moves
+pub mod Totals
+pub mod Agreement
+pub mod Found
+pub mod Sound
+pub mod Proceed
+pub mod TrainCalls
+pub mod LeverCalls
+pub mod LayingCall
+pub mod Always
+pub mod Promised
