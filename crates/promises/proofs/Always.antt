@@ -9,8 +9,6 @@ use lib.Dec.{eqb, leb, ltb}
 use lib.ListN.{length, set}
 use Rattle.std.proofs.shelf.Tests.{and-parts, or-parts, both-ways, not-false, ltb-false, eqb-false, leb-true}
 use Rattle.std.proofs.shelf.Tests.{le-leb, and-from}
-use Rattle.std.proofs.shelf.Elements.{all-weaker}
-use Rattle.std.specs.shelf.Lists.{All}
 use Rattle.std.specs.declared.option.Option.{Option}
 use Rattle.std.specs.declared.option.Option.the-variants.{None, Some}
 use Rattle.rules.specs.Calls.{Call, lay, direction, starter, home, put-on, withdraw, advance, follow, fail, mend}
@@ -28,13 +26,12 @@ use Rattle.rules.specs.TrackRuns.{Lawful}
 use Rattle.rules.specs.declared.detection.Cell.{Cell}
 use Rattle.rules.specs.declared.detection.TrackCall.the-variants.{Fail, Mend}
 use Rattle.rules.specs.declared.line.Station.{Station}
-use Rattle.rules.specs.declared.line.Station.the-variants.{EndA, EndB}
 use Rattle.rules.specs.declared.refusal.Refusal.{Refusal}
 use Rattle.promises.proofs.Agreement.{Agree, failed-kept, mended-kept, shut-kept, opened-kept}
 use Rattle.promises.proofs.LayingCall.{laid-sound}
 use Rattle.promises.proofs.LeverCalls.{turned-to-send, turned-to-receive, starter-changed, home-changed}
 use Rattle.rules.proofs.Rows.{none-hold}
-use Rattle.promises.proofs.Sound.{Blank, Away, Levers-right, Sound, Kept, clear-empty}
+use Rattle.promises.proofs.Sound.{Blank, Sound, Kept, clear-empty}
 use Rattle.promises.proofs.TrainCalls.{followed-on, withdrawn, advanced-on, put-on-road, moved-on}
 
 -- a bare line turns every call down but a laying
@@ -93,30 +90,10 @@ module _ (shows : Shows) (lamps : Lawful-lamps shows) (mark : ℕ → ℕ) (lawf
     reach-high = sound .reach-high;
     fits = sound .fits;
     agree = agree;
-    way = by-way;
-    levers = λ station. by-end station;
+    way = sound .way;
+    levers = sound .levers;
     one-way = sound .one-way;
-  } where
-    by-way : All (Away (with-closed line block shut)) (line .trains)
-    by-way = all-weaker (Away line) (Away (with-closed line block shut))
-        (λ train away out. same-sends (train .from) (away out)) (line .trains) (sound .way) where
-          same-sends : (from : Station) → sends line from ≡ true → sends (with-closed line block shut) from ≡ true
-          same-sends EndA h = h
-          same-sends EndB h = h
-
-    by-end : (station : Station) → Levers-right (with-closed line block shut) station
-    by-end EndA = record {
-      starter-high = sound .levers EndA .starter-high;
-      home-high = sound .levers EndA .home-high;
-      starter-way = sound .levers EndA .starter-way;
-      home-way = sound .levers EndA .home-way;
-    }
-    by-end EndB = record {
-      starter-high = sound .levers EndB .starter-high;
-      home-high = sound .levers EndB .home-high;
-      starter-way = sound .levers EndB .starter-way;
-      home-way = sound .levers EndB .home-way;
-    }
+  }
 
   -- failing and mending tell the track, and move no train
   pub from-laid : (c : Call) → verdict shows line c ≡ None → Sound mark (effect mark line c)

@@ -11,9 +11,10 @@ use Rattle.std.proofs.shelf.Lists.{getD-replicate, getD-past, length-replicate}
 use Rattle.std.proofs.shelf.Tests.{and-parts, leb-true, cases-lt, cases-eq, both-ways, eqb-true}
 use Rattle.rules.specs.Calls.{good-plan, all-vacant, legal-entries, names-differ, as-laid}
 use Rattle.rules.specs.Detection.{cell-of}
-use Rattle.rules.specs.Lines.{Line, all-open, new-levers, blocks, roads-of, levers-at, state-at}
+use Rattle.rules.specs.Lines.{Line, all-open, new-levers, blocks, roads-of, levers-at, state-at, roads}
 use Rattle.rules.specs.Table.{within}
 use Rattle.rules.specs.declared.line.Laying.{Laying}
+use Rattle.rules.specs.declared.line.Levers.{Levers}
 use Rattle.rules.specs.declared.line.PlanEntry.{PlanEntry}
 use Rattle.rules.specs.declared.line.Station.{Station}
 use Rattle.rules.specs.declared.line.Station.the-variants.{EndA, EndB}
@@ -68,8 +69,8 @@ few-roads line laying good EndA = bounds 1 4 (roads-of laying EndA) (good .roads
 few-roads line laying good EndB = bounds 1 4 (roads-of laying EndB) (good .roads-b-in) .1
 
 -- new levers are right at any station
-normal-right : (line : Line) (station : Station) → levers-at line station ≡ new-levers → Levers-right line station
-normal-right line station e = record {
+normal-right : (roads : ℕ) (levers : Levers) → levers ≡ new-levers → Levers-right roads levers
+normal-right roads levers e = record {
   starter-high = rw e (omega arith);
   home-high = rw e (omega arith);
   starter-way = λ h. absurd (both-ways false refl (rw e at h));
@@ -100,6 +101,7 @@ laid-sound mark line laying plan blank h =
       levers = λ station. by-end station;
       one-way = rw (blank .levers-a);
     } where
-      by-end : (station : Station) → Levers-right (as-laid line laying plan) station
-      by-end EndA = normal-right (as-laid line laying plan) EndA (blank .levers-a)
-      by-end EndB = normal-right (as-laid line laying plan) EndB (blank .levers-b)
+      by-end : (station : Station)
+          → Levers-right (roads (as-laid line laying plan) station) (levers-at (as-laid line laying plan) station)
+      by-end EndA = normal-right (laying .«roads_a») (line .at-a) (blank .levers-a)
+      by-end EndB = normal-right (laying .«roads_b») (line .at-b) (blank .levers-b)

@@ -73,35 +73,27 @@ module _ (mark : ℕ → ℕ) (lawful : Lawful mark) (line : Line) (sound : Soun
     abbrev then : Line
     then = with-levers line station new
 
-    other-a : (end : Station) → Levers-right (with-levers line EndA new) EndA
-        → Levers-right (with-levers line EndA new) end
-    other-a EndA right = right
-    other-a EndB right = record {
-      starter-high = sound .levers EndB .starter-high;
-      home-high = sound .levers EndB .home-high;
-      starter-way = sound .levers EndB .starter-way;
-      home-way = sound .levers EndB .home-way;
-    }
+    -- where the changed levers are right, those of both stations are
+    both-right : Levers-right (roads line station) new → (end : Station)
+        → Levers-right (roads then end) (levers-at then end)
+    both-right right end = by-ends station end right where
+      by-ends : (changed end : Station) → Levers-right (roads line changed) new
+          → Levers-right (roads (with-levers line changed new) end) (levers-at (with-levers line changed new) end)
+      by-ends EndA EndA ok = ok
+      by-ends EndA EndB ok = sound .levers EndB
+      by-ends EndB EndA ok = sound .levers EndA
+      by-ends EndB EndB ok = ok
 
-    other-b : (end : Station) → Levers-right (with-levers line EndB new) EndB
-        → Levers-right (with-levers line EndB new) end
-    other-b EndA right = record {
-      starter-high = sound .levers EndA .starter-high;
-      home-high = sound .levers EndA .home-high;
-      starter-way = sound .levers EndA .starter-way;
-      home-way = sound .levers EndA .home-way;
-    }
-    other-b EndB right = right
-
-    -- the changed station right, the trains away from one that still sends, and not both sending
-    pub levers-changed : Levers-right then station → All (Away then) (line .trains)
+    -- the changed levers right, the trains away from a station that still sends, and not both sending
+    pub levers-changed : Levers-right (roads line station) new → All (Away then) (line .trains)
         → (sends then EndA && sends then EndB) ≡ false → Sound mark then
-    levers-changed right way one-way = by-end station right way one-way where
-      by-end : (end : Station) → Levers-right (with-levers line end new) end
-          → All (Away (with-levers line end new)) (line .trains)
-          → (sends (with-levers line end new) EndA && sends (with-levers line end new) EndB) ≡ false
-          → Sound mark (with-levers line end new)
-      by-end EndA right way one-way = record {
+    levers-changed right way one-way = by-end station way one-way (both-right right) where
+      by-end : (changed : Station) → All (Away (with-levers line changed new)) (line .trains)
+          → (sends (with-levers line changed new) EndA && sends (with-levers line changed new) EndB) ≡ false
+          → ((end : Station)
+          → Levers-right (roads (with-levers line changed new) end) (levers-at (with-levers line changed new) end))
+          → Sound mark (with-levers line changed new)
+      by-end EndA way one-way right = record {
         laid = sound .laid;
         limits = sound .limits;
         reach-low = sound .reach-low;
@@ -109,10 +101,10 @@ module _ (mark : ℕ → ℕ) (lawful : Lawful mark) (line : Line) (sound : Soun
         fits = sound .fits;
         agree = sound .agree;
         way = way;
-        levers = λ end. other-a end right;
+        levers = right;
         one-way = one-way;
       }
-      by-end EndB right way one-way = record {
+      by-end EndB way one-way right = record {
         laid = sound .laid;
         limits = sound .limits;
         reach-low = sound .reach-low;
@@ -120,21 +112,9 @@ module _ (mark : ℕ → ℕ) (lawful : Lawful mark) (line : Line) (sound : Soun
         fits = sound .fits;
         agree = sound .agree;
         way = way;
-        levers = λ end. other-b end right;
+        levers = right;
         one-way = one-way;
       }
-
-    -- the levers themselves right
-    right-from : new .starter ≤ roads line station → new .home ≤ roads line station
-        → (reversed (new .starter) ≡ true → new .sends ≡ true) → (reversed (new .home) ≡ true → new .sends ≡ false)
-        → Levers-right then station
-    right-from starter-high home-high starter-way home-way = by-end station starter-high home-high where
-      by-end : (end : Station) → new .starter ≤ roads line end → new .home ≤ roads line end
-          → Levers-right (with-levers line end new) end
-      by-end EndA low high =
-          record { starter-high = low; home-high = high; starter-way = starter-way; home-way = home-way }
-      by-end EndB low high =
-          record { starter-high = low; home-high = high; starter-way = starter-way; home-way = home-way }
 
     -- a station that sent still sends, where the changed one does
     still-sends : (from : Station) → new .sends ≡ true → sends line from ≡ true → sends then from ≡ true
@@ -167,8 +147,12 @@ module _ (mark : ℕ → ℕ) (lawful : Lawful mark) (line : Line) (sound : Soun
   turned-to-send station far home-normal =
       let new = turned (levers-at line station) true in
       levers-changed station new
-      (right-from station new (sound .levers station .starter-high) (sound .levers station .home-high)
-      (λ _. refl) (λ h. absurd (both-ways _ home-normal h)))
+      (record {
+        starter-high = sound .levers station .starter-high;
+        home-high = sound .levers station .home-high;
+        starter-way = λ _. refl;
+        home-way = λ h. absurd (both-ways _ home-normal h);
+      })
       (way-kept station new (λ from before. still-sends station new from refl before))
       (turned-keeps line station true far)
 
@@ -178,8 +162,12 @@ module _ (mark : ℕ → ℕ) (lawful : Lawful mark) (line : Line) (sound : Soun
   turned-to-receive station all starter-normal =
       let new = turned (levers-at line station) false in
       levers-changed station new
-      (right-from station new (sound .levers station .starter-high) (sound .levers station .home-high)
-      (λ h. absurd (both-ways _ starter-normal h)) (λ _. refl))
+      (record {
+        starter-high = sound .levers station .starter-high;
+        home-high = sound .levers station .home-high;
+        starter-way = λ h. absurd (both-ways _ starter-normal h);
+        home-way = λ _. refl;
+      })
       (all-from-getD (Away (with-levers line station new)) (line .trains) no-train
       (λ i in-list out. absurd (none-away all i in-list out)))
       (turned-keeps line station false refl)
@@ -191,8 +179,12 @@ module _ (mark : ℕ → ℕ) (lawful : Lawful mark) (line : Line) (sound : Soun
   starter-changed station road high way =
       let new = starter-put (levers-at line station) road in
       levers-changed station new
-      (right-from station new high (sound .levers station .home-high)
-      (λ set. not-false (sends line station) (rw set at way)) (sound .levers station .home-way))
+      (record {
+        starter-high = high;
+        home-high = sound .levers station .home-high;
+        starter-way = λ set. not-false (sends line station) (rw set at way);
+        home-way = sound .levers station .home-way;
+      })
       (way-kept station new (unchanged-way station new refl))
       (same-way line station new refl (sound .one-way))
 
@@ -202,7 +194,11 @@ module _ (mark : ℕ → ℕ) (lawful : Lawful mark) (line : Line) (sound : Soun
   home-changed station road high way =
       let new = home-put (levers-at line station) road in
       levers-changed station new
-      (right-from station new (sound .levers station .starter-high) high
-      (sound .levers station .starter-way) (λ set. rw set at way))
+      (record {
+        starter-high = sound .levers station .starter-high;
+        home-high = high;
+        starter-way = sound .levers station .starter-way;
+        home-way = λ set. rw set at way;
+      })
       (way-kept station new (unchanged-way station new refl))
       (same-way line station new refl (sound .one-way))

@@ -17,6 +17,7 @@ use Rattle.rules.specs.Detection.{cell-of, legal-section}
 use Rattle.rules.specs.Lines.{Line, all-open, new-levers, bare, blocks, roads, laying-of, levers-at, sends, clear}
 use Rattle.rules.specs.Lines.{closed-at, state-at, section-of}
 use Rattle.rules.specs.TrackRuns.{Lawful}
+use Rattle.rules.specs.declared.line.Levers.{Levers}
 use Rattle.rules.specs.declared.line.Station.{Station}
 use Rattle.rules.specs.declared.line.Station.the-variants.{EndA, EndB}
 use Rattle.rules.specs.declared.line.Train.{Train}
@@ -31,11 +32,11 @@ abbrev pub Away : Line → Train → Type 0
 Away line train = 1 ≤ train .front → sends line (train .from) ≡ true
 
 -- a starter is reversed only where its station sends, a home only where it receives
-pub record Levers-right (line : Line) (station : Station) : Type 0 where
-  pub starter-high : levers-at line station .starter ≤ roads line station
-  pub home-high : levers-at line station .home ≤ roads line station
-  pub starter-way : reversed (levers-at line station .starter) ≡ true → sends line station ≡ true
-  pub home-way : reversed (levers-at line station .home) ≡ true → sends line station ≡ false
+pub record Levers-right (roads : ℕ) (levers : Levers) : Type 0 where
+  pub starter-high : levers .starter ≤ roads
+  pub home-high : levers .home ≤ roads
+  pub starter-way : reversed (levers .starter) ≡ true → levers .sends ≡ true
+  pub home-way : reversed (levers .home) ≡ true → levers .sends ≡ false
 
 pub record Sound (mark : ℕ → ℕ) (line : Line) : Type 0 where
   pub laid : bare line ≡ false
@@ -45,7 +46,7 @@ pub record Sound (mark : ℕ → ℕ) (line : Line) : Type 0 where
   pub fits : All (Fits (blocks line) (roads line)) (line .trains)
   pub agree : Agree mark (blocks line) (line .trains) (line .closed) (line .cells)
   pub way : All (Away line) (line .trains)
-  pub levers : (station : Station) → Levers-right line station
+  pub levers : (station : Station) → Levers-right (roads line station) (levers-at line station)
   pub one-way : (sends line EndA && sends line EndB) ≡ false
 
 pub record Blank (line : Line) : Type 0 where

@@ -28,7 +28,6 @@ use Rattle.rules.specs.TrackRuns.{Lawful}
 use Rattle.rules.specs.declared.detection.TrackCall.{TrackCall}
 use Rattle.rules.specs.declared.detection.TrackCall.the-variants.{Enter, Leave}
 use Rattle.rules.specs.declared.line.Station.{Station}
-use Rattle.rules.specs.declared.line.Station.the-variants.{EndA, EndB}
 use Rattle.rules.specs.declared.line.Train.{Train}
 use Rattle.promises.proofs.Agreement.{Agree, entered, left}
 use Rattle.promises.proofs.Fits.{Fits, in-block, in-far-road, sections-legal}
@@ -36,7 +35,7 @@ use Rattle.promises.proofs.Found.{found-within}
 use Rattle.promises.proofs.Moves.{with-rear, front-on, rear-on, in-at-last}
 use Rattle.promises.proofs.Occupation.{times, times-from, weight, one-if}
 use Rattle.promises.proofs.Proceed.{offers-sends, block-offered, home-offered}
-use Rattle.promises.proofs.Sound.{Away, Levers-right, Sound, clear-parts, clear-empty, stands-between}
+use Rattle.promises.proofs.Sound.{Away, Sound, clear-parts, clear-empty, stands-between}
 use Rattle.promises.proofs.Totals.{total, load, removed, alone}
 
 -- a train in the place of another, and what that changes in a sum
@@ -121,22 +120,9 @@ module _ (shows : Shows) (lamps : Lawful-lamps shows) (mark : ℕ → ℕ) (lawf
     fits = fits;
     agree = agree;
     way = way;
-    levers = λ station. by-end station;
+    levers = sound .levers;
     one-way = sound .one-way;
-  } where
-    by-end : (station : Station) → Levers-right (moved mark line trains call) station
-    by-end EndA = record {
-      starter-high = sound .levers EndA .starter-high;
-      home-high = sound .levers EndA .home-high;
-      starter-way = sound .levers EndA .starter-way;
-      home-way = sound .levers EndA .home-way;
-    }
-    by-end EndB = record {
-      starter-high = sound .levers EndB .starter-high;
-      home-high = sound .levers EndB .home-high;
-      starter-way = sound .levers EndB .starter-way;
-      home-way = sound .levers EndB .home-way;
-    }
+  }
 
   module _ (number : ℕ) (found : not (isSome (train-index line number)) ≡ false) where
     abbrev train : Train
