@@ -50,7 +50,7 @@ road-bounds : (station : Station) (road : ℕ) → 1 ≤ road → road ≤ 4
 road-bounds EndA road low high = (omega arith, omega arith)
 road-bounds EndB road low high = (omega arith, omega arith)
 
-is-legal : (s : ℕ) → 1 ≤ s → s ≤ 24 → legal-section s ≡ true
+pub is-legal : (s : ℕ) → 1 ≤ s → s ≤ 24 → legal-section s ≡ true
 is-legal s low high = and-from _ _ (le-leb 1 s low) (le-leb s 24 high)
 
 -- every section that a train holds is one of the track's

@@ -13,3 +13,5 @@ pub mod LeverCalls
 pub mod LayingCall
 pub mod Always
 pub mod Promised
+pub mod Frame
+pub mod RoomForTrains

@@ -30,7 +30,7 @@ use Rattle.rules.proofs.Rows.{none-hold}
 abbrev Not-both : Line → Type 0
 Not-both line = (sends line EndA && sends line EndB) ≡ false
 
-and-swap : (a b : Bool) → (a && b) ≡ false → (b && a) ≡ false
+pub and-swap : (a b : Bool) → (a && b) ≡ false → (b && a) ≡ false
 and-swap a b h = elim (and-cases a b h) [ inl e ↦ and-right b a e | inr e ↦ and-left b a e ]
 
 -- a direction lever turned where the far end does not send with it

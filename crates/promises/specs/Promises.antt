@@ -1,8 +1,8 @@
 -- What is promised of a line, over every lamps' meaning, every track's mark, and every list of calls.
 use mathlib.Core.Path.{_≡_}
-use mathlib.Core.Bool.{Bool, true, false, _&&_, _||_}
-use mathlib.Core.List.{List, [], _∷_, map}
-use Prim.Native.Nat.{ℕ, _+_, _<_}
+use mathlib.Core.Bool.{Bool, true, false, not, _&&_, _||_}
+use mathlib.Core.List.{List, [], _∷_, _++_, map}
+use Prim.Native.Nat.{ℕ, _+_, _<_, _≤_}
 use lib.Dec.{eqb}
 use lib.ListN.{length, getD}
 use Rattle.std.specs.Options.{isSome}
@@ -11,12 +11,13 @@ use Rattle.std.specs.declared.option.Option.the-variants.{None, Some}
 use Rattle.rules.specs.Aspects.{aspect-number}
 use Rattle.rules.specs.Calls.{Call, lay, direction, starter, home, put-on, withdraw, advance, follow, fail, mend}
 use Rattle.rules.specs.Calls.{close, hand-in, ask-signal, ask-name, paint, rows, verdict, line-after}
-use Rattle.rules.specs.Calls.{no-train, some-station, train-of, front-moved}
+use Rattle.rules.specs.Calls.{alike, reversed, no-train, some-station, train-of, front-moved}
 use Rattle.rules.specs.Detection.{track-verdict}
 use Rattle.rules.specs.LineRuns.{turned-down, signal, answer-to, after-all}
-use Rattle.rules.specs.Lines.{Line, new-line, blocks, sends, clear, closed-at, section-of, holds}
+use Rattle.rules.specs.Lines.{Line, new-line, bare, blocks, roads, levers-at, sends, clear, closed-at}
+use Rattle.rules.specs.Lines.{section-of, holds}
 use Rattle.rules.specs.Signals.{Shows}
-use Rattle.rules.specs.Stations.{station-of, road-section}
+use Rattle.rules.specs.Stations.{station-of, station-number, road-section}
 use Rattle.rules.specs.Table.{row-number, within}
 use Rattle.rules.specs.TrackRuns.{Lawful}
 use Rattle.rules.specs.declared.aspect.Aspect.{Aspect}
@@ -165,3 +166,54 @@ No-surprise =
     → let line = after-all shows mark (new-line cells) calls in
     (c : Call) (told : TrackCall) → verdict shows line c ≡ None → tells line c ≡ Some told
     → track-verdict mark (line .cells) told ≡ None
+
+-- ## Room
+
+-- Never more trains than sections in use, and never more than 24.
+abbrev pub Room : Type 0
+Room =
+    (shows : Shows) → Lawful-lamps shows → (mark : ℕ → ℕ) → Lawful mark
+    → (cells : List Cell) → length cells ≡ 24 → (calls : List Call)
+    → let line = after-all shows mark (new-line cells) calls in
+    (length (line .trains) ≤ blocks line + roads line EndA + roads line EndB) × (length (line .trains) ≤ 24)
+
+-- ## Lever frame
+
+-- What the frame shows of a station: whether it sends, whether its starter is reversed, whether its lock lamp is lit.
+abbrev pub frame-at : Shows → Line → Station → List Bool
+frame-at shows line station =
+    sends line station ∷ reversed (levers-at line station .starter)
+    ∷ isSome (verdict shows line (direction (station-number station) (not (sends line station)))) ∷ []
+
+-- the ten rows that can show, A before B: both receive; A sends; B sends
+abbrev pub frame-rows : List (List Bool)
+frame-rows =
+    (false ∷ false ∷ false ∷ false ∷ false ∷ false ∷ [])
+    ∷ (false ∷ false ∷ false ∷ false ∷ false ∷ true ∷ [])
+    ∷ (false ∷ false ∷ true ∷ false ∷ false ∷ false ∷ [])
+    ∷ (false ∷ false ∷ true ∷ false ∷ false ∷ true ∷ [])
+    ∷ (true ∷ false ∷ false ∷ false ∷ false ∷ true ∷ [])
+    ∷ (true ∷ false ∷ true ∷ false ∷ false ∷ true ∷ [])
+    ∷ (true ∷ true ∷ true ∷ false ∷ false ∷ true ∷ [])
+    ∷ (false ∷ false ∷ true ∷ true ∷ false ∷ false ∷ [])
+    ∷ (false ∷ false ∷ true ∷ true ∷ false ∷ true ∷ [])
+    ∷ (false ∷ false ∷ true ∷ true ∷ true ∷ true ∷ [])
+    ∷ []
+
+abbrev pub same-row : List Bool → List Bool → Bool
+same-row [] [] = true
+same-row [] (b ∷ more) = false
+same-row (a ∷ rest) [] = false
+same-row (a ∷ rest) (b ∷ more) = alike a b && same-row rest more
+
+abbrev pub is-a-row : List Bool → List (List Bool) → Bool
+is-a-row frame [] = false
+is-a-row frame (row ∷ rest) = same-row frame row || is-a-row frame rest
+
+-- After any list of calls that leaves the line laid, the frame shows one of the ten rows.
+abbrev pub Lever-frame : Type 0
+Lever-frame =
+    (shows : Shows) → Lawful-lamps shows → (mark : ℕ → ℕ) → Lawful mark
+    → (cells : List Cell) → length cells ≡ 24 → (calls : List Call)
+    → let line = after-all shows mark (new-line cells) calls in
+    bare line ≡ false → is-a-row (frame-at shows line EndA ++ frame-at shows line EndB) frame-rows ≡ true

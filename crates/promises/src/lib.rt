@@ -2,7 +2,7 @@
 ghost use Rattle.promises.specs.Movements.{Worked-through};
 ghost use Rattle.promises.specs.Promises.{Rows-as-listed, Turned-down-untouched};
 ghost use Rattle.promises.specs.Promises.{Never-both-send, Proceed-faces-the-sender, Direction-locked};
-ghost use Rattle.promises.specs.Promises.{Apart, No-surprise};
+ghost use Rattle.promises.specs.Promises.{Apart, No-surprise, Room, Lever-frame};
 
 // The rules yield every line of the movements worked through.
 pub fn movements_worked_through()
@@ -42,4 +42,14 @@ pub fn apart()
 // The track takes every entering and leaving that the line tells it of.
 pub fn no_surprise()
     ensures { λ _. ⌜ No-surprise ⌝ }
+{}
+
+// Never more trains than sections in use, and never more than 24.
+pub fn room()
+    ensures { λ _. ⌜ Room ⌝ }
+{}
+
+// The lever frame of a laid line shows one of ten rows.
+pub fn lever_frame()
+    ensures { λ _. ⌜ Lever-frame ⌝ }
 {}
