@@ -15,3 +15,5 @@ pub mod Always
 pub mod Promised
 pub mod Frame
 pub mod RoomForTrains
+pub mod Alike
+pub mod SameLamps

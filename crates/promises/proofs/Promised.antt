@@ -265,7 +265,7 @@ module _ (shows : Shows) (line : Line) (blank : Blank line) where
   is-bare = rw (blank .none-laid)
 
   -- only a laying is carried out there, or a question asked in vain
-  bare-tells-nothing : (c : Call) → verdict shows line c ≡ None
+  pub bare-tells-nothing : (c : Call) → verdict shows line c ≡ None
       → (front-comes-into line c ≡ None) × (tells line c ≡ None)
   bare-tells-nothing (lay laying plan) none = (refl, refl)
   bare-tells-nothing (direction m send) none = (refl, refl)

@@ -12,10 +12,11 @@ use Rattle.rules.specs.Aspects.{aspect-number}
 use Rattle.rules.specs.Calls.{Call, lay, direction, starter, home, put-on, withdraw, advance, follow, fail, mend}
 use Rattle.rules.specs.Calls.{close, hand-in, ask-signal, ask-name, paint, rows, verdict, line-after}
 use Rattle.rules.specs.Calls.{alike, reversed, no-train, some-station, train-of, front-moved}
-use Rattle.rules.specs.Detection.{track-verdict}
-use Rattle.rules.specs.LineRuns.{turned-down, signal, answer-to, after-all}
+use Rattle.rules.specs.Detection.{new-cells, track-verdict}
+use Rattle.rules.specs.LineRuns.{turned-down, signal, answer-to, after-all, answers}
 use Rattle.rules.specs.Lines.{Line, new-line, bare, blocks, roads, levers-at, sends, clear, closed-at}
 use Rattle.rules.specs.Lines.{section-of, holds}
+use Rattle.rules.specs.Panels.{panel}
 use Rattle.rules.specs.Signals.{Shows}
 use Rattle.rules.specs.Stations.{station-of, station-number, road-section}
 use Rattle.rules.specs.Table.{row-number, within}
@@ -217,3 +218,17 @@ Lever-frame =
     → (cells : List Cell) → length cells ≡ 24 → (calls : List Call)
     → let line = after-all shows mark (new-line cells) calls in
     bare line ≡ false → is-a-row (frame-at shows line EndA ++ frame-at shows line EndB) frame-rows ≡ true
+
+-- ## Same levers, same lamps
+
+-- Two boxes with any two lawful marks, both tracks new, the same lamps' meaning and the same calls: the same answers,
+-- the
+-- same answer to every question for a signal, and the same panel.
+abbrev pub Same-levers-same-lamps : Type 0
+Same-levers-same-lamps =
+    (shows : Shows) → Lawful-lamps shows → (one two : ℕ → ℕ) → Lawful one → Lawful two → (calls : List Call)
+    → let first = after-all shows one (new-line new-cells) calls in
+    let second = after-all shows two (new-line new-cells) calls in
+    (answers shows one (new-line new-cells) calls ≡ answers shows two (new-line new-cells) calls)
+    × ((n place : ℕ) → answer-to shows first (ask-signal n place) ≡ answer-to shows second (ask-signal n place))
+    × (panel shows first ≡ panel shows second)

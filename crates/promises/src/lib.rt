@@ -2,7 +2,7 @@
 ghost use Rattle.promises.specs.Movements.{Worked-through};
 ghost use Rattle.promises.specs.Promises.{Rows-as-listed, Turned-down-untouched};
 ghost use Rattle.promises.specs.Promises.{Never-both-send, Proceed-faces-the-sender, Direction-locked};
-ghost use Rattle.promises.specs.Promises.{Apart, No-surprise, Room, Lever-frame};
+ghost use Rattle.promises.specs.Promises.{Apart, No-surprise, Room, Lever-frame, Same-levers-same-lamps};
 
 // The rules yield every line of the movements worked through.
 pub fn movements_worked_through()
@@ -52,4 +52,9 @@ pub fn room()
 // The lever frame of a laid line shows one of ten rows.
 pub fn lever_frame()
     ensures { λ _. ⌜ Lever-frame ⌝ }
+{}
+
+// Whatever kind of track it has, a box that is given the same calls answers and shows the same.
+pub fn same_levers_same_lamps()
+    ensures { λ _. ⌜ Same-levers-same-lamps ⌝ }
 {}
