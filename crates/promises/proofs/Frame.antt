@@ -1,8 +1,9 @@
 -- The lever frame shows one of ten rows.
 use mathlib.Core.Path.{_≡_, refl}
-use mathlib.Core.Bool.{Bool, true, false, not, _&&_}
+use mathlib.Core.Bool.{Bool, true, false, cond, not, _&&_}
 use mathlib.Core.List.{[], _∷_, _++_}
 use mathlib.Core.Logic.{inl, inr}
+use lib.Dec.{eqb}
 use Rattle.std.proofs.shelf.Tests.{both-ways}
 use Rattle.std.specs.Options.{isSome}
 use Rattle.std.specs.declared.option.Option.{Option}
@@ -80,6 +81,11 @@ starter-lights shows line station here set =
     let passed = none-hold (rows shows line (direction (station-number station) (not (sends line station)))) none in
     both-ways _ (rw (known station, here) at (passed .1 .1 .1 .1 .0)) set)
 
+-- a lamp's byte is 1 where it is lit
+lit-flag : (met : Option Refusal) → eqb (cond (isSome met) 1 0) 1 ≡ isSome met
+lit-flag None = refl
+lit-flag (Some refusal) = refl
+
 -- not both: where one sends the other does not
 silent : (a b : Bool) → (a && b) ≡ false → b ≡ true → a ≡ false
 silent true b h e = absurd (both-ways b h e)
@@ -96,7 +102,8 @@ lever-frame shows lamps mark lawful cells sized calls laid =
           let far-end-b =
           silent (sends line EndB) (sends line EndA)
           (and-swap (sends line EndA) (sends line EndB) (sound .one-way)) in
-          one-of-ten _ _ _ _ _ _ (record {
+          rw (lit-flag (lamp shows line EndA), lit-flag (lamp shows line EndB))
+          (one-of-ten _ _ _ _ _ _ (record {
             not-both = sound .one-way;
             starter-a = sound .levers EndA .starter-way;
             starter-b = sound .levers EndB .starter-way;
@@ -104,5 +111,5 @@ lever-frame shows lamps mark lawful cells sized calls laid =
             far-b = λ h. far-lights shows line EndB (far-end-b h) h;
             lock-a = λ h. starter-lights shows line EndA (sound .levers EndA .starter-way h) h;
             lock-b = λ h. starter-lights shows line EndB (sound .levers EndB .starter-way h) h;
-          })
+          }))
     ]

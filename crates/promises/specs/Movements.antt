@@ -17,7 +17,7 @@ use Rattle.rules.specs.declared.aspect.Aspect.the-variants.{Stop, Restricted, C
 use Rattle.rules.specs.declared.aspect.LampSet.the-variants.{Three}
 use Rattle.rules.specs.declared.line.PlanEntry.{PlanEntry}
 use Rattle.rules.specs.declared.refusal.Refusal.{Refusal}
-use Rattle.rules.specs.declared.refusal.Refusal.the-variants.{BadPlan, FarEndSends, LeverOnLever, LineNotClear, Held}
+use Rattle.rules.specs.declared.refusal.Refusal.the-variants.{BadPlan, BadCard, FarEndSends, LeverOnLever, LineNotClear, Held}
 
 -- One thing done: a call or question, a look at a byte of the panel, or the cab signal asked for a count and metres.
 pub data Step : Type 0 where
@@ -141,16 +141,28 @@ cab-limits =
     (cab 1 101, aspect Restricted) ∷ (cab 1 102, aspect Caution) ∷ (cab 1 211, aspect Caution)
     ∷ (cab 1 212, aspect Reduced) ∷ (cab 1 451, aspect Reduced) ∷ (cab 1 452, aspect Clear) ∷ []
 
--- 9. N of 0 and of 17 are turned down, N of 16 is laid.
+-- 9. N of 0 and of 17 are turned down, N of 16 is laid; the names differ, so that N alone breaks a limit.
+abbrev laid-under-new-names : ℕ → Call
+laid-under-new-names n =
+    lay (record { number = 1; blocks = n; «roads_a» = 2; «roads_b» = 2; reach = 1 }) (map named (counting 1 (n + 4)))
+
 abbrev limits-of-n : Movement
-limits-of-n = no (laid 0 2 2 1) BadPlan ∷ no (laid 17 2 2 1) BadPlan ∷ ok (laid 16 2 2 1) ∷ []
+limits-of-n =
+    no (laid-under-new-names 0) BadPlan ∷ no (laid-under-new-names 17) BadPlan ∷ ok (laid-under-new-names 16) ∷ []
 
 -- 10. N of 1: the home is on a taken road and is put to another, and the train comes in.
 abbrev home-to-another-road : Movement
 home-to-another-road =
     ok (laid 1 2 2 1) ∷ ok (put-on 7 8 2 1) ∷ ok (put-on 101 8 1 1) ∷ ok (direction 1 true) ∷ ok (starter 1 1)
     ∷ ok (advance 101) ∷ ok (home 2 1) ∷ gives 1 2 Stop 0
-    ∷ ok (home 2 0) ∷ ok (home 2 2) ∷ ok (advance 101) ∷ ok (follow 101) ∷ ok (follow 101) ∷ []
+    ∷ ok (home 2 0) ∷ ok (home 2 2) ∷ ok (advance 101) ∷ ok (follow 101) ∷ ok (follow 101)
+    ∷ (byte 0, shown 0) ∷ (byte 21, shown 1) ∷ []
+
+-- 11. The limits of a card.
+abbrev limits-of-a-card : Movement
+limits-of-a-card =
+    sample-line ∷ ok (put-on 9999 8 1 1) ∷ ok (put-on 1 400 1 2) ∷ no (put-on 10000 8 2 1) BadCard
+    ∷ no (put-on 2 401 2 1) BadCard ∷ no (put-on 2 1 2 1) BadCard ∷ []
 
 -- 12. A section that fails and is mended under a train.
 abbrev mended-under-a-train : Movement
@@ -170,7 +182,7 @@ abbrev pub worked : List Movement
 worked =
     both-to-send ∷ lock-lamps ∷ starter-locks-direction ∷ train-locks-direction ∷ starter-is-held ∷ third-closed
     ∷ second-closed ∷ first-failed ∷ short-of-reach ∷ cab-limits ∷ limits-of-n ∷ home-to-another-road
-    ∷ mended-under-a-train ∷ sample-script ∷ []
+    ∷ limits-of-a-card ∷ mended-under-a-train ∷ sample-script ∷ []
 
 -- The rules yield each line of every movement.
 abbrev pub Worked-through : Type 0

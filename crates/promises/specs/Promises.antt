@@ -16,7 +16,7 @@ use Rattle.rules.specs.Detection.{new-cells, track-verdict}
 use Rattle.rules.specs.LineRuns.{turned-down, signal, answer-to, after-all, answers}
 use Rattle.rules.specs.Lines.{Line, new-line, bare, blocks, roads, levers-at, sends, clear, closed-at}
 use Rattle.rules.specs.Lines.{section-of, holds}
-use Rattle.rules.specs.Panels.{panel}
+use Rattle.rules.specs.Panels.{panel, lock-lamp}
 use Rattle.rules.specs.Signals.{Shows}
 use Rattle.rules.specs.Stations.{station-of, station-number, road-section}
 use Rattle.rules.specs.Table.{row-number, within}
@@ -183,10 +183,9 @@ Room =
 -- What the frame shows of a station: whether it sends, whether its starter is reversed, whether its lock lamp is lit.
 abbrev pub frame-at : Shows → Line → Station → List Bool
 frame-at shows line station =
-    sends line station ∷ reversed (levers-at line station .starter)
-    ∷ isSome (verdict shows line (direction (station-number station) (not (sends line station)))) ∷ []
+    sends line station ∷ reversed (levers-at line station .starter) ∷ eqb (lock-lamp shows line station) 1 ∷ []
 
--- the ten rows that can show, A before B: both receive; A sends; B sends
+-- the only rows that may show, A before B: both receive; A sends; B sends
 abbrev pub frame-rows : List (List Bool)
 frame-rows =
     (false ∷ false ∷ false ∷ false ∷ false ∷ false ∷ [])
@@ -222,8 +221,7 @@ Lever-frame =
 -- ## Same levers, same lamps
 
 -- Two boxes with any two lawful marks, both tracks new, the same lamps' meaning and the same calls: the same answers,
--- the
--- same answer to every question for a signal, and the same panel.
+-- the same answer to every question for a signal, and the same panel.
 abbrev pub Same-levers-same-lamps : Type 0
 Same-levers-same-lamps =
     (shows : Shows) → Lawful-lamps shows → (one two : ℕ → ℕ) → Lawful one → Lawful two → (calls : List Call)

@@ -39,7 +39,7 @@ pub fn apart()
     ensures { λ _. ⌜ Apart ⌝ }
 {}
 
-// The track takes every entering and leaving that the line tells it of.
+// The track takes every call that the line makes of it.
 pub fn no_surprise()
     ensures { λ _. ⌜ No-surprise ⌝ }
 {}
