@@ -17,7 +17,8 @@ use Rattle.rules.specs.declared.aspect.Aspect.the-variants.{Stop, Restricted, C
 use Rattle.rules.specs.declared.aspect.LampSet.the-variants.{Three}
 use Rattle.rules.specs.declared.line.PlanEntry.{PlanEntry}
 use Rattle.rules.specs.declared.refusal.Refusal.{Refusal}
-use Rattle.rules.specs.declared.refusal.Refusal.the-variants.{BadPlan, BadCard, FarEndSends, LeverOnLever, LineNotClear, Held}
+use Rattle.rules.specs.declared.refusal.Refusal.the-variants.{BadPlan, BadCard, FarEndSends}
+use Rattle.rules.specs.declared.refusal.Refusal.the-variants.{LeverOnLever, LineNotClear, Held}
 
 -- One thing done: a call or question, a look at a byte of the panel, or the cab signal asked for a count and metres.
 pub data Step : Type 0 where

@@ -1,6 +1,6 @@
 -- What is promised of a line, over every lamps' meaning, every track's mark, and every list of calls.
 use mathlib.Core.Path.{_≡_}
-use mathlib.Core.Bool.{Bool, true, false, not, _&&_, _||_}
+use mathlib.Core.Bool.{Bool, true, false, _&&_, _||_}
 use mathlib.Core.List.{List, [], _∷_, _++_, map}
 use Prim.Native.Nat.{ℕ, _+_, _<_, _≤_}
 use lib.Dec.{eqb}
@@ -18,7 +18,7 @@ use Rattle.rules.specs.Lines.{Line, new-line, bare, blocks, roads, levers-at, s
 use Rattle.rules.specs.Lines.{section-of, holds}
 use Rattle.rules.specs.Panels.{panel, lock-lamp}
 use Rattle.rules.specs.Signals.{Shows}
-use Rattle.rules.specs.Stations.{station-of, station-number, road-section}
+use Rattle.rules.specs.Stations.{station-of, road-section}
 use Rattle.rules.specs.Table.{row-number, within}
 use Rattle.rules.specs.TrackRuns.{Lawful}
 use Rattle.rules.specs.declared.aspect.Aspect.{Aspect}
