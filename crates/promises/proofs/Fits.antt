@@ -45,7 +45,7 @@ pub block-bounds : (n d : ℕ) (station : Station) → 1 ≤ d → d ≤ n
 block-bounds n d EndA low high = (low, high)
 block-bounds n d EndB low high = (omega arith, omega arith)
 
-road-bounds : (station : Station) (road : ℕ) → 1 ≤ road → road ≤ 4
+pub road-bounds : (station : Station) (road : ℕ) → 1 ≤ road → road ≤ 4
     → (17 ≤ road-section station road) × (road-section station road ≤ 24)
 road-bounds EndA road low high = (omega arith, omega arith)
 road-bounds EndB road low high = (omega arith, omega arith)

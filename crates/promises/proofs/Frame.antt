@@ -60,9 +60,9 @@ lit (Some refusal) h = refl
 lamp : Shows → Line → Station → Option Refusal
 lamp shows line station = verdict shows line (direction (station-number station) (not (sends line station)))
 
-known : (station : Station) → some-station (station-number station) ≡ station
-known EndA = refl
-known EndB = refl
+pub known-station : (station : Station) → some-station (station-number station) ≡ station
+known-station EndA = refl
+known-station EndB = refl
 
 -- the far end sending, or the starter reversed, lights it
 far-lights : (shows : Shows) (line : Line) (station : Station) → sends line station ≡ false
@@ -71,7 +71,7 @@ unfolding lamp
 far-lights shows line station here far =
     lit (lamp shows line station) (λ none.
     let passed = none-hold (rows shows line (direction (station-number station) (not (sends line station)))) none in
-    both-ways _ (rw (known station, here) at (passed .1 .1 .1 .0)) far)
+    both-ways _ (rw (known-station station, here) at (passed .1 .1 .1 .0)) far)
 
 starter-lights : (shows : Shows) (line : Line) (station : Station) → sends line station ≡ true
     → reversed (levers-at line station .starter) ≡ true → isSome (lamp shows line station) ≡ true
@@ -79,7 +79,7 @@ unfolding lamp
 starter-lights shows line station here set =
     lit (lamp shows line station) (λ none.
     let passed = none-hold (rows shows line (direction (station-number station) (not (sends line station)))) none in
-    both-ways _ (rw (known station, here) at (passed .1 .1 .1 .1 .0)) set)
+    both-ways _ (rw (known-station station, here) at (passed .1 .1 .1 .1 .0)) set)
 
 -- a lamp's byte is 1 where it is lit
 lit-flag : (met : Option Refusal) → eqb (cond (isSome met) 1 0) 1 ≡ isSome met

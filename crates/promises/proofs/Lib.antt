@@ -17,3 +17,7 @@ pub mod Frame
 pub mod RoomForTrains
 pub mod Alike
 pub mod SameLamps
+pub mod Numbers
+pub mod Numbered
+pub mod Foremost
+pub mod GetsIn

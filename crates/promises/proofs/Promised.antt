@@ -209,7 +209,7 @@ module _ (shows : Shows) (lamps : Lawful-lamps shows) (mark : ℕ → ℕ) (lawf
   taken (paint bytes) told none h = absurd (nothing-said told h)
 
   -- a train that holds a block is away from the station it left
-  holds-block-away : (i block : ℕ) → i < length (line .trains) → within 1 (blocks line) block ≡ true
+  pub holds-block-away : (i block : ℕ) → i < length (line .trains) → within 1 (blocks line) block ≡ true
       → holds (blocks line) (train-at mark line sound i) block ≡ true → 1 ≤ train-at mark line sound i .front
   holds-block-away i block in-list in-line h =
       let train = train-at mark line sound i in

@@ -46,7 +46,7 @@ put-order cells t s cell same =
     ]
 
 -- an entering or a leaving puts nothing out of order
-enter-order : (mark : ℕ → ℕ) (cells : List Cell) (t n s : ℕ)
+pub enter-order : (mark : ℕ → ℕ) (cells : List Cell) (t n s : ℕ)
     → cell-of (track-after mark cells (Enter t n)) s .failed ≡ cell-of cells s .failed
 enter-order mark cells t n s = by-verdict (track-verdict mark cells (Enter t n)) where
   by-verdict : (met : Option Refusal)
@@ -54,7 +54,7 @@ enter-order mark cells t n s = by-verdict (track-verdict mark cells (Enter t n))
   by-verdict None = put-order cells t s _ refl
   by-verdict (Some refusal) = refl
 
-leave-order : (mark : ℕ → ℕ) (cells : List Cell) (t n s : ℕ)
+pub leave-order : (mark : ℕ → ℕ) (cells : List Cell) (t n s : ℕ)
     → cell-of (track-after mark cells (Leave t n)) s .failed ≡ cell-of cells s .failed
 leave-order mark cells t n s = by-verdict (track-verdict mark cells (Leave t n)) where
   by-verdict : (met : Option Refusal)

@@ -1,8 +1,9 @@
 -- What is promised of a line, over every lamps' meaning, every track's mark, and every list of calls.
 use mathlib.Core.Path.{_≡_}
-use mathlib.Core.Bool.{Bool, true, false, _&&_, _||_}
+use mathlib.Core.Bool.{Bool, true, false, not, _&&_, _||_}
 use mathlib.Core.List.{List, [], _∷_, _++_, map}
-use Prim.Native.Nat.{ℕ, _+_, _<_, _≤_}
+use mathlib.Core.Logic.{_⊎_}
+use Prim.Native.Nat.{ℕ, zero, suc, _+_, _*_, _<_, _≤_}
 use lib.Dec.{eqb}
 use lib.ListN.{length, getD}
 use Rattle.std.specs.Options.{isSome}
@@ -11,14 +12,14 @@ use Rattle.std.specs.declared.option.Option.the-variants.{None, Some}
 use Rattle.rules.specs.Aspects.{aspect-number}
 use Rattle.rules.specs.Calls.{Call, lay, direction, starter, home, put-on, withdraw, advance, follow, fail, mend}
 use Rattle.rules.specs.Calls.{close, hand-in, ask-signal, ask-name, paint, rows, verdict, line-after}
-use Rattle.rules.specs.Calls.{alike, reversed, no-train, some-station, train-of, front-moved}
-use Rattle.rules.specs.Detection.{new-cells, track-verdict}
+use Rattle.rules.specs.Calls.{alike, reversed, no-train, some-station, train-index, train-of, front-moved}
+use Rattle.rules.specs.Detection.{new-cells, cell-of, track-verdict}
 use Rattle.rules.specs.LineRuns.{turned-down, signal, answer-to, after-all, answers}
 use Rattle.rules.specs.Lines.{Line, new-line, bare, blocks, roads, levers-at, sends, clear, closed-at}
-use Rattle.rules.specs.Lines.{section-of, holds}
+use Rattle.rules.specs.Lines.{section-of, holds, in-use, wholly-in}
 use Rattle.rules.specs.Panels.{panel, lock-lamp}
 use Rattle.rules.specs.Signals.{Shows}
-use Rattle.rules.specs.Stations.{station-of, road-section}
+use Rattle.rules.specs.Stations.{station-of, road-section, other-end}
 use Rattle.rules.specs.Table.{row-number, within}
 use Rattle.rules.specs.TrackRuns.{Lawful}
 use Rattle.rules.specs.declared.aspect.Aspect.{Aspect}
@@ -27,6 +28,7 @@ use Rattle.rules.specs.declared.detection.TrackCall.{TrackCall}
 use Rattle.rules.specs.declared.detection.TrackCall.the-variants.{Enter, Leave, Fail, Mend}
 use Rattle.rules.specs.declared.line.Station.{Station}
 use Rattle.rules.specs.declared.line.Station.the-variants.{EndA, EndB}
+use Rattle.rules.specs.declared.line.Train.{Train}
 use Rattle.rules.specs.declared.refusal.Refusal.{Refusal}
 
 -- Lamps show stop exactly where nothing is clear.
@@ -230,3 +232,82 @@ Same-levers-same-lamps =
     (answers shows one (new-line new-cells) calls ≡ answers shows two (new-line new-cells) calls)
     × ((n place : ℕ) → answer-to shows first (ask-signal n place) ≡ answer-to shows second (ask-signal n place))
     × (panel shows first ≡ panel shows second)
+
+-- ## Gets in
+
+abbrev pub any-block : ℕ → Train → ℕ → Bool
+any-block n train zero = false
+any-block n train (suc k) = holds n train (suc k) || any-block n train k
+
+-- whether a train holds a block
+abbrev pub holds-a-block : Line → Train → Bool
+holds-a-block line train = any-block (blocks line) train (blocks line)
+
+abbrev pub train-at : Line → ℕ → Train
+train-at line i = getD (line .trains) i no-train
+
+-- The foremost train: among those that hold a block, the one whose front is furthest on its way.
+pub record Foremost (line : Line) (i : ℕ) : Type 0 where
+  pub on-line : i < length (line .trains)
+  pub holds-one : holds-a-block line (train-at line i) ≡ true
+  pub furthest : (j : ℕ) → j < length (line .trains) → holds-a-block line (train-at line j) ≡ true
+      → train-at line j .front ≤ train-at line i .front
+
+-- Every section in use is in order, and no block is closed.
+pub record Line-in-order (line : Line) : Type 0 where
+  pub in-order : (s : ℕ) → in-use line s ≡ true → cell-of (line .cells) s .failed ≡ false
+  pub none-closed : (block : ℕ) → within 1 (blocks line) block ≡ true → closed-at line block ≡ false
+
+-- The receiving station has a clear road, or the train's front stands in one there.
+abbrev pub Way-in : Line → Train → Type 0
+Way-in line train =
+    ((road : ℕ) × (1 ≤ road) × (road ≤ roads line (other-end (train .from)))
+    × (clear line (road-section (other-end (train .from)) road) ≡ true))
+    ⊎ (train .front ≡ blocks line + 1)
+
+-- lever calls, advances and follows
+abbrev pub is-move : Call → Bool
+is-move (lay laying plan) = false
+is-move (direction n send) = true
+is-move (starter n road) = true
+is-move (home n road) = true
+is-move (put-on number axles n road) = false
+is-move (withdraw number) = false
+is-move (advance number) = true
+is-move (follow number) = true
+is-move (fail s) = false
+is-move (mend s) = false
+is-move (close block) = false
+is-move (hand-in number block) = false
+is-move (ask-signal n place) = false
+is-move (ask-name name) = false
+is-move (paint bytes) = false
+
+-- each of a list is such a call, and is carried out in its turn
+abbrev pub all-carried-out : Shows → (ℕ → ℕ) → Line → List Call → Bool
+all-carried-out shows mark line [] = true
+all-carried-out shows mark line (c ∷ calls) =
+    is-move c && not (isSome (verdict shows line c)) && all-carried-out shows mark (line-after shows mark line c) calls
+
+-- At most so many calls, all carried out, bring the train of a number wholly into a road of a station.
+pub record Brought-in (shows : Shows) (mark : ℕ → ℕ) (line : Line) (number : ℕ) (station : Station)
+    (most : ℕ) : Type 0 where
+  pub calls : List Call
+  pub few : length calls ≤ most
+  pub carried-out : all-carried-out shows mark line calls ≡ true
+  pub still-known : isSome (train-index (after-all shows mark line calls) number) ≡ true
+  pub there : train-of (after-all shows mark line calls) number .from ≡ station
+  pub wholly : wholly-in (train-of (after-all shows mark line calls) number) ≡ true
+
+-- Where a train holds a block there is a foremost one; and if the line is in order and there is a way in, at most
+-- 2 × N + 3 lever calls, advances and follows bring it wholly in.
+abbrev pub Gets-in : Type 0
+Gets-in =
+    (shows : Shows) → Lawful-lamps shows → (mark : ℕ → ℕ) → Lawful mark
+    → (cells : List Cell) → length cells ≡ 24 → (calls : List Call)
+    → let line = after-all shows mark (new-line cells) calls in
+    (i : ℕ) → i < length (line .trains) → holds-a-block line (train-at line i) ≡ true
+    → (f : ℕ) × Foremost line f
+    × (Line-in-order line → Way-in line (train-at line f)
+    → Brought-in shows mark line (train-at line f .number) (other-end (train-at line f .from))
+    (2 * blocks line + 3))

@@ -2,7 +2,7 @@
 ghost use Rattle.promises.specs.Movements.{Worked-through};
 ghost use Rattle.promises.specs.Promises.{Rows-as-listed, Turned-down-untouched};
 ghost use Rattle.promises.specs.Promises.{Never-both-send, Proceed-faces-the-sender, Direction-locked};
-ghost use Rattle.promises.specs.Promises.{Apart, No-surprise, Room, Lever-frame, Same-levers-same-lamps};
+ghost use Rattle.promises.specs.Promises.{Apart, No-surprise, Room, Lever-frame, Same-levers-same-lamps, Gets-in};
 
 // The rules yield every line of the movements worked through.
 pub fn movements_worked_through()
@@ -57,4 +57,9 @@ pub fn lever_frame()
 // Whatever kind of track it has, a box that is given the same calls answers and shows the same.
 pub fn same_levers_same_lamps()
     ensures { λ _. ⌜ Same-levers-same-lamps ⌝ }
+{}
+
+// The foremost train, on a line in order and with a way in, is brought wholly in by at most 2 × N + 3 calls.
+pub fn gets_in()
+    ensures { λ _. ⌜ Gets-in ⌝ }
 {}
