@@ -703,42 +703,57 @@ module _ (shows : Shows) (lamps : Lawful-lamps shows) (mark : ℕ → ℕ) (lawf
       holds-block-away shows lamps mark lawful line sound j (at .0) in-list
       (and-from _ _ (le-leb 1 (at .0) (at .1)) (le-leb (at .0) (blocks line) (at .2))) (at .3)
 
-  -- a line with a train in a block has a foremost one, and it gets in
-  from-sound : (line : Line) → Sound mark line → Distinct (line .trains) → (i : ℕ) → i < length (line .trains)
-      → holds-a-block line (train-at line i) ≡ true
-      → (f : ℕ) × Foremost line f
-      × (Line-in-order line → Way-in line (train-at line f)
-      → Brought-in shows mark line (train-at line f .number) (other-end (train-at line f .from))
-      (2 * blocks line + 3))
-  from-sound line sound distinct i in-list h =
+  -- a line with a train in a block has a foremost one
+  some-foremost : (line : Line) → Sound mark line → (i : ℕ) → i < length (line .trains)
+      → holds-a-block line (train-at line i) ≡ true → (f : ℕ) × Foremost line f
+  some-foremost line sound i in-list h =
       let best = furthest-front (line .trains) (omega arith) in
       let f = best .0 in
       let out : 1 ≤ train-at line f .front = omega (arith, held-away line sound i in-list h, best .2 i in-list) in
-      let fits = all-getD (Fits (blocks line) (roads line)) (line .trains) f no-train (best .1) (sound .fits) in
-      let foremost : Foremost line f = record {
-        on-line = best .1;
-        holds-one = away-holds (blocks line) (roads line) (train-at line f) (sound .limits .some) fits out;
-        furthest = λ j l held. best .2 j l;
-      } in (
+      let fits = all-getD (Fits (blocks line) (roads line)) (line .trains) f no-train (best .1) (sound .fits) in (
         f,
-        foremost,
-        λ order way. bring line f (record {
-          sound = sound;
-          distinct = distinct;
+        record {
           on-line = best .1;
-          out = out;
-          furthest = best .2;
-          order = order;
-        }) way,
+          holds-one = away-holds (blocks line) (roads line) (train-at line f) (sound .limits .some) fits out;
+          furthest = λ j l held. best .2 j l;
+        },
       )
+
+  -- no front is further on than that of a foremost train, in a block or not
+  foremost-of-all : (line : Line) → Sound mark line → (f : ℕ) → Foremost line f → (j : ℕ) → j < length (line .trains)
+      → train-at line j .front ≤ train-at line f .front
+  foremost-of-all line sound f foremost j in-list =
+      let fits = all-getD (Fits (blocks line) (roads line)) (line .trains) j no-train in-list (sound .fits) in
+      elim (cases-lt (train-at line j .front) 1) [
+        | inl still ↦ omega arith
+        | inr out ↦
+            foremost .furthest j in-list
+            (away-holds (blocks line) (roads line) (train-at line j) (sound .limits .some) fits out)
+      ]
+
+  foremost-comes : (line : Line) → Sound mark line → Distinct (line .trains) → (f : ℕ) → Foremost line f
+      → Line-in-order line → Coming mark line f
+  foremost-comes line sound distinct f foremost order = record {
+    sound = sound;
+    distinct = distinct;
+    on-line = foremost .on-line;
+    out = held-away line sound f (foremost .on-line) (foremost .holds-one);
+    furthest = foremost-of-all line sound f foremost;
+    order = order;
+  }
 
 -- a train that can come in is brought in
 pub gets-in : Gets-in
-gets-in shows lamps mark lawful cells sized calls i in-list h =
+gets-in shows lamps mark lawful cells sized calls =
     let line = after-all shows mark (new-line cells) calls in
     elim (always shows lamps mark lawful cells sized calls) [
-      | inl blank ↦ absurd (omega (arith, in-list, ap length (blank .no-trains)))
+      | inl blank ↦
+          let none : length (line .trains) ≡ 0 = ap length (blank .no-trains) in
+          (λ i in-list h. absurd (omega arith), λ f foremost order way. absurd (omega (arith, foremost .on-line)))
       | inr sound ↦
-          from-sound shows lamps mark lawful line sound
-          (distinct-always shows mark (new-line cells) calls tt) i in-list h
+          let distinct = distinct-always shows mark (new-line cells) calls tt in (
+            some-foremost shows lamps mark lawful line sound,
+            λ f foremost order way. bring shows lamps mark lawful line f
+                (foremost-comes shows lamps mark lawful line sound distinct f foremost order) way,
+          )
     ]

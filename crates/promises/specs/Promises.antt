@@ -299,15 +299,13 @@ pub record Brought-in (shows : Shows) (mark : ℕ → ℕ) (line : Line) (number
   pub there : train-of (after-all shows mark line calls) number .from ≡ station
   pub wholly : wholly-in (train-of (after-all shows mark line calls) number) ≡ true
 
--- Where a train holds a block there is a foremost one; and if the line is in order and there is a way in, at most
--- 2 × N + 3 lever calls, advances and follows bring it wholly in.
+-- Where a train holds a block there is a foremost one; and if the line is in order and a foremost train has a way in,
+-- at most 2 × N + 3 lever calls, advances and follows bring it wholly in.
 abbrev pub Gets-in : Type 0
 Gets-in =
     (shows : Shows) → Lawful-lamps shows → (mark : ℕ → ℕ) → Lawful mark
     → (cells : List Cell) → length cells ≡ 24 → (calls : List Call)
     → let line = after-all shows mark (new-line cells) calls in
-    (i : ℕ) → i < length (line .trains) → holds-a-block line (train-at line i) ≡ true
-    → (f : ℕ) × Foremost line f
-    × (Line-in-order line → Way-in line (train-at line f)
-    → Brought-in shows mark line (train-at line f .number) (other-end (train-at line f .from))
-    (2 * blocks line + 3))
+    ((i : ℕ) → i < length (line .trains) → holds-a-block line (train-at line i) ≡ true → (f : ℕ) × Foremost line f)
+    × ((f : ℕ) → Foremost line f → Line-in-order line → Way-in line (train-at line f)
+    → Brought-in shows mark line (train-at line f .number) (other-end (train-at line f .from)) (2 * blocks line + 3))
