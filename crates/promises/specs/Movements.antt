@@ -159,6 +159,14 @@ home-to-another-road =
     ∷ ok (home 2 0) ∷ ok (home 2 2) ∷ ok (advance 101) ∷ ok (follow 101) ∷ ok (follow 101)
     ∷ (byte 0, shown 0) ∷ (byte 21, shown 1) ∷ []
 
+-- The same from B, over two blocks and into one of three roads: 7 calls bring the train in.
+abbrev from-the-other-end : Movement
+from-the-other-end =
+    ok (laid 2 3 1 1) ∷ ok (put-on 7 8 1 1) ∷ ok (put-on 101 8 2 1) ∷ ok (direction 2 true) ∷ ok (starter 2 1)
+    ∷ ok (advance 101) ∷ (byte 1, shown 1) ∷ ok (home 1 1)
+    ∷ ok (home 1 0) ∷ ok (home 1 3) ∷ ok (advance 101) ∷ ok (advance 101) ∷ ok (follow 101) ∷ ok (follow 101)
+    ∷ ok (follow 101) ∷ (byte 0, shown 0) ∷ (byte 1, shown 0) ∷ (byte 18, shown 1) ∷ (byte 20, shown 0) ∷ []
+
 -- 11. The limits of a card.
 abbrev limits-of-a-card : Movement
 limits-of-a-card =
@@ -183,7 +191,7 @@ abbrev pub worked : List Movement
 worked =
     both-to-send ∷ lock-lamps ∷ starter-locks-direction ∷ train-locks-direction ∷ starter-is-held ∷ third-closed
     ∷ second-closed ∷ first-failed ∷ short-of-reach ∷ cab-limits ∷ limits-of-n ∷ home-to-another-road
-    ∷ limits-of-a-card ∷ mended-under-a-train ∷ sample-script ∷ []
+    ∷ from-the-other-end ∷ limits-of-a-card ∷ mended-under-a-train ∷ sample-script ∷ []
 
 -- The rules yield each line of every movement.
 abbrev pub Worked-through : Type 0
