@@ -1,4 +1,6 @@
 // Lamps: what a signal shows for the sections that are clear ahead of it.
+#![tactic(auto)]
+
 ghost use Rattle.std.specs.Prelude.{◌≡◌, ℕ};
 ghost use Rattle.rules.specs.Aspects.{aspect_number, lamp_set_shows, cab_shows, NeverLower};
 ghost use Rattle.rules.specs.declared.aspect.Aspect.{Aspect};

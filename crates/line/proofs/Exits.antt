@@ -1,5 +1,6 @@
 -- How a call ends, by the row that its checks and the track found or did not find.
-use Rattle.std.proofs.Common.{◌≡◌, ℕ, true, false, List, [], ◌∷◌, ◌++◌, is_some, is_err, Some, None, Ok, Err, Option, Result, sym, refl, ap, ◌∙◌, inl, inr, arith}
+use Rattle.std.proofs.Common.{◌≡◌, ℕ, List, [], ◌∷◌, ◌++◌, is_some, is_err, Some, None, Ok, Err, Option, Result, sym}
+use Rattle.std.proofs.Common.{refl, ap, ◌∙◌, inl, inr, arith}
 use Rattle.std.proofs.lemmas.Bool.{cases_Bool}
 use Rattle.rules.specs.Calls.{Call, rows, verdict, effect}
 use Rattle.promises.specs.Promises.{tells}
@@ -12,7 +13,8 @@ use Rattle.rules.specs.declared.detection.TrackCall.{TrackCall}
 use Rattle.rules.specs.declared.refusal.Refusal.{Refusal}
 use Rattle.line.specs.Exact.{no_room, told_rows, exact_verdict, exact_after}
 
-pub stopped : {S : Type 0} (v : Option Refusal) (x : S) (refusal : Refusal) → Err refusal ≡ answer v x → v ≡ Some refusal
+pub stopped : {S : Type 0} (v : Option Refusal) (x : S) (refusal : Refusal) → Err refusal ≡ answer v x
+    → v ≡ Some refusal
 stopped None x refusal h = let z : ◌≡◌ {A = ℕ} 0 1 = cc in absurd (omega arith)
 stopped (Some other) x refusal h = cc
 

@@ -1,16 +1,15 @@
 -- On a line that was new, a call ends as the rules say, and all that is promised goes on.
-use Rattle.std.proofs.Common.{◌≡◌, ℕ, ◌+◌, ◌<◌, ◌≤◌, true, false, eqb, leb, List, [], ◌∷◌, ◌++◌, length, Some, None, Option, Result, sym, refl, ap, ◌∙◌, inl, inr, arith}
+use Rattle.std.proofs.Common.{◌≡◌, ℕ, ◌<◌, List, [], ◌∷◌, ◌++◌, length, Some, None, Option, Result, sym, refl, ap}
+use Rattle.std.proofs.Common.{◌∙◌, inl, inr, arith}
 use Rattle.std.proofs.lemmas.List.{length_push}
-use Rattle.std.proofs.lemmas.Bool.{cases_eq, eq-eqb, ne_eqb, eqb-true, lt-leb}
+use Rattle.std.proofs.lemmas.Bool.{cases_eq, ne_eqb, lt-leb}
 use Rattle.rules.specs.Aspects.{aspect_number}
 use Rattle.rules.specs.Calls.{Call, lay, direction, starter, home, put_on, withdraw, advance, follow, fail, mend}
 use Rattle.rules.specs.Calls.{close, hand_in, ask_signal, ask_name, paint, rows, verdict, effect, line_after}
 use Rattle.rules.specs.Calls.{standing, some_station}
-use Rattle.rules.specs.Detection.{new_cells}
 use Rattle.rules.specs.LineRuns.{Answer, answer_to, after_all, result, unless}
 use Rattle.rules.specs.Lines.{Line, new_line}
 use Rattle.rules.specs.Signals.{Shows}
-use Rattle.rules.specs.Stations.{road_section}
 use Rattle.rules.specs.Table.{topmost, answer, after}
 use Rattle.rules.specs.TrackRuns.{Lawful}
 use Rattle.rules.specs.declared.detection.Cell.{Cell}
@@ -22,12 +21,13 @@ use Rattle.promises.proofs.Always.{after_any, always}
 use Rattle.promises.proofs.Frame.{lever_frame}
 use Rattle.promises.proofs.GetsIn.{gets_in}
 use Rattle.promises.proofs.OneWay.{never_both_send, proceed_faces_the_sender}
-use Rattle.promises.proofs.Promised.{apart, fronts_come_into_clear, no_surprise, direction_locked, taken, bare_tells_nothing}
+use Rattle.promises.proofs.Promised.{apart, fronts_come_into_clear, no_surprise, direction_locked, taken}
+use Rattle.promises.proofs.Promised.{bare_tells_nothing}
 use Rattle.promises.proofs.RoomForTrains.{room, no_more_than_sections}
 use Rattle.promises.proofs.SameLamps.{same_levers_same_lamps}
 use Rattle.promises.specs.Sound.{Kept}
 use Rattle.line.specs.Exact.{no_room, told_rows, exact_verdict, exact_answer, exact_after, ByTheRules, Ends}
-use Rattle.line.specs.History.{Promised, Goes_on}
+use Rattle.line.specs.History.{Promised, GoesOn}
 use Rattle.line.proofs.Exits.{Exactly, row_in_front, row_in_rest}
 
 -- the two laws of lamps say that stop is shown exactly where nothing is clear
@@ -74,7 +74,8 @@ module _ (shows : Shows) (lamps : LawfulLamps shows) (mark : ℕ → ℕ) (lawfu
       let c = put_on number axles n road in
       let new = standing number axles (some_station n) road in
       let then : line_after shows mark line c ≡ effect mark line c = ap (λ v. after v line (effect mark line c)) none in
-      let fewer = rw then at (kept_room (line_after shows mark line c) (after_any shows lamps mark lawful line c kept)).1 in
+      let still = after_any shows lamps mark lawful line c kept in
+      let fewer = rw then at (kept_room (line_after shows mark line c) still).1 in
       let below : length line.trains < 24 = omega (arith, fewer, length_push line.trains new) in
       rw (lt-leb 24 (length line.trains) below)
   roomy line (withdraw number) kept none = refl
@@ -134,7 +135,7 @@ module _ (shows : Shows) (lamps : LawfulLamps shows) (mark : ℕ → ℕ) (lawfu
   }
 
   pub goes_on : (old new : Line) (c : Call) (reply : Answer) → reply ≡ exact_answer shows mark old c
-      → new ≡ exact_after shows mark old c → Goes_on shows mark old c reply new
+      → new ≡ exact_after shows mark old c → GoesOn shows mark old c reply new
   goes_on old new c reply said changed cells sized calls reached =
       let kept : Kept mark old = rw reached (always shows lamps mark lawful cells sized calls) in
       let same = rules_decide old c kept in

@@ -1,7 +1,10 @@
 -- What a line keeps to is kept as its trains change.
-use Rattle.std.proofs.Common.{◌≡◌, ℕ, zero, suc, ◌+◌, ◌<◌, ◌≤◌, Bool, true, false, not, ◌&&◌, ◌||◌, eqb, ltb, leb, List, [], ◌∷◌, ◌++◌, length, get_or, take, drop, set, is_some, Some, None, Option, unwrap_or, refl, ap, ◌∙◌, inl, inr, arith}
+use Rattle.std.proofs.Common.{◌≡◌, ℕ, zero, suc, ◌+◌, ◌<◌, ◌≤◌, Bool, true, false, not, ◌||◌, eqb, ltb, leb, List, []}
+use Rattle.std.proofs.Common.{◌∷◌, ◌++◌, length, get_or, take, drop, set, is_some, Some, None, Option, unwrap_or}
+use Rattle.std.proofs.Common.{refl, inl, inr, arith}
 use Rattle.std.proofs.lemmas.List.{length-set}
-use Rattle.std.proofs.lemmas.Bool.{and_parts, and_from, or_cases, or_left, eqb-true, leb-true, le-leb, cond_both, both_ways}
+use Rattle.std.proofs.lemmas.Bool.{and_parts, and_from, or_cases, or_left, eqb-true, leb-true, le-leb, cond_both}
+use Rattle.std.proofs.lemmas.Bool.{both_ways}
 use Rattle.rules.specs.Calls.{front_moved, rear_moved, standing, legal_laying, legal_plan, legal_entries, names_differ}
 use Rattle.rules.specs.Lines.{Line, blocks, roads, roads_of, no_laying, levers_at}
 use Rattle.rules.specs.Stations.{other_end}
@@ -184,7 +187,8 @@ no_trains_kept None laying (train ∷ trains) bare kept =
 no_trains_kept (Some old) laying trains bare kept = absurd (both_ways false refl bare)
 
 -- a legal plan is short, and is one that a line keeps
-pub plan_of_laying : (laying : Laying) (plan : List PlanEntry) → legal_laying laying ≡ true → legal_plan laying plan ≡ true
+pub plan_of_laying : (laying : Laying) (plan : List PlanEntry) → legal_laying laying ≡ true
+    → legal_plan laying plan ≡ true
     → (length plan ≤ 24) × (plan_kept (Some laying) plan ≡ true)
 plan_of_laying laying plan numbers entries =
     let few = few_sections (Some laying) numbers in

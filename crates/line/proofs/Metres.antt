@@ -1,5 +1,6 @@
 -- The metres of blocks one after the other are those of a part of the plan, whichever way they are counted.
-use Rattle.std.proofs.Common.{◌≡◌, ℕ, zero, suc, ◌+◌, ◌-◌, ◌<◌, ◌≤◌, true, ltb, leb, List, length, get_or, take, drop, sum_by, sym, refl, ap, ◌∙◌, add-one, arith, length-drop}
+use Rattle.std.proofs.Common.{◌≡◌, ℕ, zero, suc, ◌+◌, ◌-◌, ◌<◌, ◌≤◌, true, ltb, leb, List, length, get_or, take, drop}
+use Rattle.std.proofs.Common.{sum_by, sym, refl, ap, ◌∙◌, add-one, arith, length-drop}
 use Rattle.std.proofs.lemmas.List.{get_or-drop, at_drop_more}
 use Rattle.std.proofs.lemmas.List.Sums.{sum_by-cons, sum_by_more}
 use Rattle.std.proofs.lemmas.Bool.{and_parts, leb-true, le-leb, lt-leb, ne_eqb, cond-true, cond-false}
@@ -43,7 +44,8 @@ metres_from_b line d i (suc c) at within =
     let plan = line.plan in
     let last : ((blocks line + 1) - d) - 1 ≡ i + c = omega arith in
     let rest = metres_from_b line (d + 1) i c (omega arith) (omega arith) in
-    let back : metres_sum (take (c + 1) (drop i plan)) ≡ metres_sum (take c (drop i plan)) + metres_of_entry line (i + c) =
+    let back : metres_sum (take (c + 1) (drop i plan))
+    ≡ metres_sum (take c (drop i plan)) + metres_of_entry line (i + c) =
     sum_by_more (λ entry. entry.metres) (drop i plan) c no_entry (omega (arith, length-drop i plan))
     ∙ ap (λ entry. metres_sum (take c (drop i plan)) + entry.metres) (get_or-drop i plan c no_entry) in
     rw last (omega (arith, rest, rw add-one at back))

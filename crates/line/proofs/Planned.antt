@@ -1,5 +1,6 @@
 -- A plan, entry by entry.
-use Rattle.std.proofs.Common.{◌≡◌, ℕ, zero, suc, ◌+◌, ◌-◌, ◌<◌, ◌≤◌, true, false, cond, not, ◌&&◌, ◌||◌, eqb, ltb, leb, List, [], ◌∷◌, length, get_or, take, drop, is_some, sym, refl, ap, ◌∙◌, inl, inr, arith}
+use Rattle.std.proofs.Common.{◌≡◌, ℕ, zero, suc, ◌+◌, ◌-◌, ◌<◌, ◌≤◌, true, false, not, ◌&&◌, eqb, leb, List, [], ◌∷◌}
+use Rattle.std.proofs.Common.{length, get_or, take, drop, is_some, refl, ◌∙◌, inl, inr, arith}
 use Rattle.std.proofs.lemmas.List.{at_drop_more, take_all, length-drop}
 use Rattle.std.proofs.lemmas.Bool.{and_parts, and_from, and_left, cases_Bool, leb-true, le-leb, lt-ltb, ne_eqb}
 use Rattle.rules.specs.Calls.{legal_entry, legal_entries, has_name, names_differ}
@@ -11,7 +12,8 @@ use Rattle.line.proofs.Metres.{no_entry}
 
 -- an entry within its limits is passed over, and one that is not ends the asking
 module _ (plan : List PlanEntry) (i : ℕ) (inside : i < length plan) where
-  legal_asked : legal_entries (drop i plan) ≡ (legal_entry (get_or plan i no_entry) && legal_entries (drop (i + 1) plan))
+  legal_asked : legal_entries (drop i plan)
+      ≡ (legal_entry (get_or plan i no_entry) && legal_entries (drop (i + 1) plan))
   legal_asked = at_drop_more legal_entries plan i no_entry inside
 
   pub entry_legal : legal_entry (get_or plan i no_entry) ≡ true

@@ -1,5 +1,5 @@
 -- The sections of a track, asked from the first on.
-use Rattle.std.proofs.Common.{◌≡◌, ℕ, zero, suc, ◌+◌, ◌<◌, true, false, ◌&&◌, eqb, sym, refl, inl, inr, add-one, arith}
+use Rattle.std.proofs.Common.{◌≡◌, ℕ, zero, suc, ◌+◌, ◌<◌, true, false, eqb, inl, inr, add-one, arith}
 use Rattle.std.proofs.lemmas.Bool.{and_from, and_left, and_right, cases_eq}
 use Rattle.rules.specs.Calls.{all_vacant}
 use Rattle.rules.specs.Lines.{Line, state_at}

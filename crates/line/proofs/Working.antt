@@ -1,5 +1,5 @@
 -- What the methods of a line return, as answers of the rules.
-use Rattle.std.proofs.Common.{◌≡◌, ℕ, List, Some, None, Ok, Err, Option, Result, sym, refl, ap, ◌∙◌}
+use Rattle.std.proofs.Common.{◌≡◌, ℕ, List, Some, None, Ok, Err, Option, Result, sym, refl, ap}
 use Rattle.rules.specs.LineRuns as rules_say
 use Rattle.rules.specs.LineRuns.{unless}
 use Rattle.rules.specs.Lines.{Line}

@@ -48,7 +48,7 @@ pub record Reached (shows : Shows) (mark : ℕ → ℕ) (cells : List Cell) (cal
   pub same : cells ≡ new_cells → SameElsewhere shows mark (calls ++ call ∷ []) new
 
 -- Whatever calls came before, in whatever order, over whatever 24 cells.
-abbrev pub Goes_on : Shows → (ℕ → ℕ) → Line → Call → Answer → Line → Type 0
-Goes_on shows mark old call answer new =
+abbrev pub GoesOn : Shows → (ℕ → ℕ) → Line → Call → Answer → Line → Type 0
+GoesOn shows mark old call answer new =
     (cells : List Cell) → length cells ≡ 24 → (calls : List Call)
     → old ≡ after_all shows mark (new_line cells) calls → Reached shows mark cells calls call answer new

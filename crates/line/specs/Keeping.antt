@@ -1,9 +1,9 @@
 -- What a line keeps to, whatever its track: the facts that its type states.
-use Rattle.std.specs.Prelude.{ℕ, ◌+◌, Bool, true, not, ◌&&◌, ◌||◌, List, [], ◌∷◌, length, is_some, Some, None, Option, ◌==◌, nat_eq, nat_le, nat_lt}
+use Rattle.std.specs.Prelude.{ℕ, ◌+◌, Bool, true, ◌&&◌, ◌||◌, List, [], ◌∷◌, length, is_some, Some, None, Option}
+use Rattle.std.specs.Prelude.{◌==◌, nat_eq, nat_le, nat_lt}
 use Rattle.std.specs.Option.{unwrap_or}
 use Rattle.rules.specs.Calls.{legal_laying}
 use Rattle.rules.specs.Lines.{no_laying}
-use Rattle.rules.specs.Table.{within}
 use Rattle.rules.specs.declared.line.Laying.{Laying}
 use Rattle.rules.specs.declared.line.Levers.{Levers}
 use Rattle.rules.specs.declared.line.PlanEntry.{PlanEntry}

@@ -1,5 +1,5 @@
 -- The calls and answers of the code, as those of the rules.
-use Rattle.std.specs.Prelude.{◌≡◌, ℕ, vec_items}
+use Rattle.std.specs.Prelude.{◌≡◌, vec_items}
 use Rattle.rules.specs.Calls as rules
 use Rattle.rules.specs.LineRuns as rules_say
 use Rattle.line.specs.declared.calls.Answer.{Answer}

@@ -27,7 +27,7 @@ pub struct NoMemory<T, L> {
 impl<T: Track, L: Lamps> Line<T, L> {
     // A bare line. Its memory is taken here, and no later call can fail for want of any.
     pub fn new(heap: Global, track: T, lamps: L) -> Result<Self, NoMemory<T, L>>
-        ensures made { IfOk result (λ line. (world cells line ≡ new_line (cells track)) × (line.lamps ≡ lamps)) }
+        ensures made { IfOk result (λ line. (world T.cells line ≡ new_line (T.cells track)) × (line.lamps ≡ lamps)) }
         ensures refused { IfErr result (λ back. (back.track ≡ track) × (back.lamps ≡ lamps)) }
     {
         match Frame::new(heap) {
@@ -42,8 +42,8 @@ impl<T: Track, L: Lamps> Line<T, L> {
 
     // Lays a bare line over a track that is vacant throughout.
     pub fn lay(&mut self, laying: Laying, plan: &[PlanEntry]) -> Result<(), Refusal>
-        ensures ends { Ends (shows self.old.lamps) mark (world cells self.old)
-            (lay laying plan.now) tt result (world cells self.new) }
+        ensures ends { Ends (L.shows self.old.lamps) T.mark (world T.cells self.old)
+            (lay laying plan.now) tt result (world T.cells self.new) }
         ensures lamps { self.new.lamps ≡ self.old.lamps }
     {
         self.check_lay(laying, plan)?;
@@ -53,9 +53,9 @@ impl<T: Track, L: Lamps> Line<T, L> {
 
     fn check_lay(&self, laying: Laying, plan: &[PlanEntry]) -> Result<(), Refusal>
         ensures row { result ≡ answer
-            (verdict (shows self.now.lamps) (world cells self.now)
+            (verdict (L.shows self.now.lamps) (world T.cells self.now)
             (lay laying plan.now)) tt }
-        ensures bare { OnOk result (bare (world cells self.now) ≡ true) }
+        ensures bare { OnOk result (bare (world T.cells self.now) ≡ true) }
         ensures numbers { OnOk result (legal_laying laying ≡ true) }
         ensures entries { OnOk result (legal_plan laying plan.now ≡ true) }
     {
@@ -76,7 +76,7 @@ impl<T: Track, L: Lamps> Line<T, L> {
 
     fn is_vacant(&self, section: u32) -> bool
         requires { legal_section section ≡ true }
-        ensures { result ≡ (state_at (world cells self.now) section == 0) }
+        ensures { result ≡ (state_at (world T.cells self.now) section == 0) }
     {
         match self.track.state(section) {
             Ok(SectionState::Vacant) => true,
@@ -86,7 +86,7 @@ impl<T: Track, L: Lamps> Line<T, L> {
 
     // All 24 sections of the track, in use or not.
     fn all_vacant(&self) -> bool
-        ensures { result ≡ all_vacant (world cells self.now) 24 }
+        ensures { result ≡ all_vacant (world T.cells self.now) 24 }
     {
         for place in 0..LAST_SECTION {
             if !self.is_vacant(place + 1) {
@@ -99,22 +99,22 @@ impl<T: Track, L: Lamps> Line<T, L> {
     // The section that bears a name in the plan.
     pub fn section_named(&self, name: u32) -> Result<u32, Refusal>
         ensures { result ≡ answer
-            (verdict (shows self.now.lamps) (world cells self.now) (ask_name name))
-            (section_named (world cells self.now) name) }
+            (verdict (L.shows self.now.lamps) (world T.cells self.now) (ask_name name))
+            (section_named (world T.cells self.now) name) }
     {
         self.frame.section_named(name)
     }
 
     // The numbers that the line was laid with; none while it is bare.
     pub fn laying(&self) -> Option<Laying>
-        ensures { result ≡ (world cells self.now).laying }
+        ensures { result ≡ (world T.cells self.now).laying }
     {
         self.frame.laying()
     }
 
     // The trains on the line, in the order of putting on.
     pub fn trains(&self) -> &[Train]
-        ensures { result.now ≡ (world cells self.now).trains }
+        ensures { result.now ≡ (world T.cells self.now).trains }
     {
         self.frame.trains()
     }

@@ -15,8 +15,8 @@ use track::Track;
 impl<T: Track, L: Lamps> Line<T, L> {
     // Turns a direction lever to send or to receive.
     pub fn direction(&mut self, station: u32, send: bool) -> Result<(), Refusal>
-        ensures ends { Ends (shows self.old.lamps) mark (world cells self.old)
-            (direction station send) tt result (world cells self.new) }
+        ensures ends { Ends (L.shows self.old.lamps) T.mark (world T.cells self.old)
+            (direction station send) tt result (world T.cells self.new) }
         ensures lamps { self.new.lamps ≡ self.old.lamps }
     {
         let station = self.check_direction(station, send)?;
@@ -26,8 +26,8 @@ impl<T: Track, L: Lamps> Line<T, L> {
 
     // Puts a starter to normal, which is road 0, or reverses it for a road.
     pub fn starter(&mut self, station: u32, road: u32) -> Result<(), Refusal>
-        ensures ends { Ends (shows self.old.lamps) mark (world cells self.old)
-            (starter station road) tt result (world cells self.new) }
+        ensures ends { Ends (L.shows self.old.lamps) T.mark (world T.cells self.old)
+            (starter station road) tt result (world T.cells self.new) }
         ensures lamps { self.new.lamps ≡ self.old.lamps }
     {
         let station = self.frame.check_starter(station, road)?;
@@ -37,8 +37,8 @@ impl<T: Track, L: Lamps> Line<T, L> {
 
     // Puts a home to normal, which is road 0, or reverses it for a road.
     pub fn home(&mut self, station: u32, road: u32) -> Result<(), Refusal>
-        ensures ends { Ends (shows self.old.lamps) mark (world cells self.old)
-            (home station road) tt result (world cells self.new) }
+        ensures ends { Ends (L.shows self.old.lamps) T.mark (world T.cells self.old)
+            (home station road) tt result (world T.cells self.new) }
         ensures lamps { self.new.lamps ≡ self.old.lamps }
     {
         let station = self.frame.check_home(station, road)?;
@@ -49,7 +49,7 @@ impl<T: Track, L: Lamps> Line<T, L> {
     // Whether a direction lever may be turned. The lever asks this, and the lock lamps ask it too.
     pub(crate) fn check_direction(&self, station: u32, send: bool) -> Result<Station, Refusal>
         ensures { result ≡ answer
-            (verdict (shows self.now.lamps) (world cells self.now) (direction station send))
+            (verdict (L.shows self.now.lamps) (world T.cells self.now) (direction station send))
             (some_station station) }
     {
         if !self.frame.is_laid() {

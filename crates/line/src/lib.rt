@@ -1,4 +1,6 @@
 // The line: every call of the rules, above any track and any lamps.
+#![tactic(auto)]
+
 pub mod calls;
 mod frame;
 pub mod laying;

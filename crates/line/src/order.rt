@@ -12,8 +12,8 @@ use track::Track;
 impl<T: Track, L: Lamps> Line<T, L> {
     // The section goes out of order; what it holds stays.
     pub fn fail(&mut self, section: u32) -> Result<(), Refusal>
-        ensures ends { Ends (shows self.old.lamps) mark (world cells self.old)
-            (fail section) tt result (world cells self.new) }
+        ensures ends { Ends (L.shows self.old.lamps) T.mark (world T.cells self.old)
+            (fail section) tt result (world T.cells self.new) }
         ensures lamps { self.new.lamps ≡ self.old.lamps }
     {
         self.frame.check_in_use(section)?;
@@ -22,8 +22,8 @@ impl<T: Track, L: Lamps> Line<T, L> {
 
     // The section is back in order; what it holds stays.
     pub fn mend(&mut self, section: u32) -> Result<(), Refusal>
-        ensures ends { Ends (shows self.old.lamps) mark (world cells self.old)
-            (mend section) tt result (world cells self.new) }
+        ensures ends { Ends (L.shows self.old.lamps) T.mark (world T.cells self.old)
+            (mend section) tt result (world T.cells self.new) }
         ensures lamps { self.new.lamps ≡ self.old.lamps }
     {
         self.frame.check_in_use(section)?;

@@ -2,9 +2,7 @@
 ghost use Rattle.std.specs.Prelude.{◌≡◌, ◌<◌, ◌≤◌, true, ◌++◌, length, drop, if◌then◌else◌, OnOk, nat_eq};
 ghost use Rattle.rules.specs.Calls.{paint, verdict};
 ghost use Rattle.rules.specs.Detection.{legal_section};
-ghost use Rattle.rules.specs.Lines.{levers_at};
 ghost use Rattle.rules.specs.Panels.{section_byte, signal_byte, lock_lamp, panel_byte, flag, panel};
-ghost use Rattle.rules.specs.Stations.{station_number};
 ghost use Rattle.rules.specs.Table.{answer, after};
 ghost use Rattle.rules.specs.declared.line.Station.TheVariants.{EndA, EndB};
 ghost use Rattle.line.specs.Worlds.{world};
@@ -44,13 +42,13 @@ impl<T: Track, L: Lamps> Line<T, L> {
     // Paints the first 66 bytes of a panel.
     pub fn paint(&self, bytes: &mut [u8]) -> Result<(), Refusal>
         ensures answer { result ≡ answer
-            (verdict (shows self.now.lamps) (world cells self.now)
+            (verdict (L.shows self.now.lamps) (world T.cells self.now)
             (paint (length bytes.old))) tt }
         ensures painted { bytes.new ≡ after
-            (verdict (shows self.now.lamps) (world cells self.now)
+            (verdict (L.shows self.now.lamps) (world T.cells self.now)
             (paint (length bytes.old)))
             bytes.old
-            (panel (shows self.now.lamps) (world cells self.now) ++ drop 66 bytes.old) }
+            (panel (L.shows self.now.lamps) (world T.cells self.now) ++ drop 66 bytes.old) }
     {
         self.check_paint(bytes.len())?;
         self.paint_bytes(bytes);
@@ -60,8 +58,8 @@ impl<T: Track, L: Lamps> Line<T, L> {
     // The bytes that a panel of so many would be painted with.
     pub(crate) fn painted(&self, bytes: usize) -> Result<[u8; PANEL_BYTES], Refusal>
         ensures { result ≡ answer
-            (verdict (shows self.now.lamps) (world cells self.now) (paint bytes))
-            (panel (shows self.now.lamps) (world cells self.now)) }
+            (verdict (L.shows self.now.lamps) (world T.cells self.now) (paint bytes))
+            (panel (L.shows self.now.lamps) (world T.cells self.now)) }
     {
         self.check_paint(bytes)?;
         let mut panel = [0; PANEL_BYTES];
@@ -71,7 +69,7 @@ impl<T: Track, L: Lamps> Line<T, L> {
 
     fn check_paint(&self, bytes: usize) -> Result<(), Refusal>
         ensures row { result ≡ answer
-            (verdict (shows self.now.lamps) (world cells self.now) (paint bytes)) tt }
+            (verdict (L.shows self.now.lamps) (world T.cells self.now) (paint bytes)) tt }
         ensures long { OnOk result (66 ≤ bytes) }
     {
         if !self.frame.is_laid() {
@@ -86,7 +84,7 @@ impl<T: Track, L: Lamps> Line<T, L> {
     fn paint_bytes(&self, bytes: &mut [u8])
         requires { 66 ≤ length bytes.old }
         ensures { bytes.new
-            ≡ panel (shows self.now.lamps) (world cells self.now) ++ drop 66 bytes.old }
+            ≡ panel (L.shows self.now.lamps) (world T.cells self.now) ++ drop 66 bytes.old }
     {
         for at in 0..PANEL_BYTES {
             bytes[at] = self.byte(at as u32);
@@ -95,7 +93,7 @@ impl<T: Track, L: Lamps> Line<T, L> {
 
     fn byte(&self, at: u32) -> u8
         requires { at < 66 }
-        ensures { result ≡ panel_byte (shows self.now.lamps) (world cells self.now) at }
+        ensures { result ≡ panel_byte (L.shows self.now.lamps) (world T.cells self.now) at }
     {
         match at {
             0..24 => self.section_byte(at + 1),
@@ -110,7 +108,7 @@ impl<T: Track, L: Lamps> Line<T, L> {
 
     fn section_byte(&self, section: u32) -> u8
         requires { legal_section section ≡ true }
-        ensures { result ≡ section_byte (world cells self.now) section }
+        ensures { result ≡ section_byte (world T.cells self.now) section }
     {
         if !self.frame.is_in_use(section) {
             return MISSING;
@@ -129,7 +127,7 @@ impl<T: Track, L: Lamps> Line<T, L> {
     }
 
     fn signal_byte(&self, station: Station, place: u32) -> u8
-        ensures { result ≡ signal_byte (shows self.now.lamps) (world cells self.now)
+        ensures { result ≡ signal_byte (L.shows self.now.lamps) (world T.cells self.now)
             station place }
     {
         if !self.frame.has_signal(station, place) {
@@ -141,7 +139,7 @@ impl<T: Track, L: Lamps> Line<T, L> {
 
     // Lit where turning the direction lever over would be turned down: the lever itself is asked.
     fn lock_lamp(&self, station: Station) -> u8
-        ensures { result ≡ lock_lamp (shows self.now.lamps) (world cells self.now) station }
+        ensures { result ≡ lock_lamp (L.shows self.now.lamps) (world T.cells self.now) station }
     {
         let over = !self.frame.levers(station).sends;
         flag(

@@ -15,8 +15,8 @@ use track::Track;
 impl<T: Track, L: Lamps> Line<T, L> {
     // Closes a clear block and gives the slip for it.
     pub fn close(&mut self, block: u32) -> Result<Slip, Refusal>
-        ensures ends { Ends (shows self.old.lamps) mark (world cells self.old)
-            (close block) (slip_for (world cells self.old) block) result (world cells self.new) }
+        ensures ends { Ends (L.shows self.old.lamps) T.mark (world T.cells self.old)
+            (close block) (slip_for (world T.cells self.old) block) result (world T.cells self.new) }
         ensures lamps { self.new.lamps ≡ self.old.lamps }
     {
         self.check_close(block)?;
@@ -27,7 +27,7 @@ impl<T: Track, L: Lamps> Line<T, L> {
 
     fn check_close(&self, block: u32) -> Result<(), Refusal>
         ensures row { result ≡ answer
-            (verdict (shows self.now.lamps) (world cells self.now) (close block)) tt }
+            (verdict (L.shows self.now.lamps) (world T.cells self.now) (close block)) tt }
         ensures block { OnOk result ((1 ≤ block) × (block ≤ 16)) }
     {
         if !self.frame.is_laid() {
@@ -44,8 +44,8 @@ impl<T: Track, L: Lamps> Line<T, L> {
 
     // Opens the block that a slip is out on and spends the slip, or gives it back.
     pub fn hand_in(&mut self, slip: Slip) -> Result<(), (Refusal, Slip)>
-        ensures ends { Ends (shows self.old.lamps) mark (world cells self.old)
-            (hand_in slip.line slip.block) tt (without_slip result) (world cells self.new) }
+        ensures ends { Ends (L.shows self.old.lamps) T.mark (world T.cells self.old)
+            (hand_in slip.line slip.block) tt (without_slip result) (world T.cells self.new) }
         ensures back { GivenBack slip result }
         ensures lamps { self.new.lamps ≡ self.old.lamps }
     {

@@ -31,7 +31,7 @@ impl Numbered for PlanEntry {
 
 // The first index whose record bears the number. No record is looked at for 0, which none bears.
 pub(crate) fn search<R: Numbered>(records: &[R], number: u32) -> Option<usize>
-    ensures found { result ≡ search_by borne number records.now }
+    ensures found { result ≡ search_by R.borne number records.now }
     ensures within { IfSome result (λ index. index < length records.now) }
 {
     if number == 0 {

@@ -22,8 +22,8 @@ impl<T: Track, L: Lamps> Line<T, L> {
     // The aspect of the signal that guards a place, for trains from a station, together with its count.
     pub fn signal(&self, station: u32, place: u32) -> Result<(Aspect, u32), Refusal>
         ensures { result ≡ answer
-            (verdict (shows self.now.lamps) (world cells self.now) (ask_signal station place))
-            (signal_shown (shows self.now.lamps) (world cells self.now) station place) }
+            (verdict (L.shows self.now.lamps) (world T.cells self.now) (ask_signal station place))
+            (signal_shown (L.shows self.now.lamps) (world T.cells self.now) station place) }
     {
         let at = self.frame.check_signal(station, place)?;
         let aspect = self.aspect_at(at.station, at.distance);
@@ -34,7 +34,7 @@ impl<T: Track, L: Lamps> Line<T, L> {
     // Vacant, and no slip out on it.
     pub(crate) fn is_clear(&self, section: u32) -> bool
         requires { legal_section section ≡ true }
-        ensures { result ≡ clear (world cells self.now) section }
+        ensures { result ≡ clear (world T.cells self.now) section }
     {
         match self.track.state(section) {
             Ok(SectionState::Vacant) => !self.frame.closed_at(section),
@@ -45,8 +45,8 @@ impl<T: Track, L: Lamps> Line<T, L> {
     // How many blocks are clear one after the other, from a distance on.
     fn run_ahead(&self, station: Station, distance: u32) -> u32
         requires { 1 ≤ distance }
-        ensures is { result ≡ run_ahead (world cells self.now) station distance }
-        ensures within { result ≤ (blocks (world cells self.now) + 1) - distance }
+        ensures is { result ≡ run_ahead (world T.cells self.now) station distance }
+        ensures within { result ≤ (blocks (world T.cells self.now) + 1) - distance }
     {
         let blocks = self.frame.blocks();
         let mut run = 0;
@@ -61,14 +61,14 @@ impl<T: Track, L: Lamps> Line<T, L> {
 
     // Every block is clear where the run from one end is as long as the line.
     pub(crate) fn line_clear(&self) -> bool
-        ensures { result ≡ all_clear (world cells self.now) (blocks (world cells self.now)) }
+        ensures { result ≡ all_clear (world T.cells self.now) (blocks (world T.cells self.now)) }
     {
         self.run_ahead(Station::EndA, 1) == self.frame.blocks()
     }
 
     fn starter_count(&self, station: Station) -> u32
-        ensures is { result ≡ starter_count (world cells self.now) station }
-        ensures within { result ≤ (blocks (world cells self.now) + 1) - 1 }
+        ensures is { result ≡ starter_count (world T.cells self.now) station }
+        ensures within { result ≤ (blocks (world T.cells self.now) + 1) - 1 }
     {
         let levers = self.frame.levers(station);
         let run = self.run_ahead(station, 1);
@@ -81,8 +81,8 @@ impl<T: Track, L: Lamps> Line<T, L> {
 
     fn block_count(&self, station: Station, distance: u32) -> u32
         requires { 1 ≤ distance }
-        ensures is { result ≡ block_count (world cells self.now) station distance }
-        ensures within { result ≤ (blocks (world cells self.now) + 1) - distance }
+        ensures is { result ≡ block_count (world T.cells self.now) station distance }
+        ensures within { result ≤ (blocks (world T.cells self.now) + 1) - distance }
     {
         if self.frame.levers(station).sends {
             self.run_ahead(station, distance)
@@ -92,7 +92,7 @@ impl<T: Track, L: Lamps> Line<T, L> {
     }
 
     fn home_count(&self, station: Station) -> u32
-        ensures { result ≡ home_count (world cells self.now) station }
+        ensures { result ≡ home_count (world T.cells self.now) station }
     {
         let home = self.frame.levers(station.other()).home;
         if !self.frame.levers(station).sends {
@@ -111,9 +111,9 @@ impl<T: Track, L: Lamps> Line<T, L> {
     // The clear sections ahead of the signal at a distance.
     fn count_at(&self, station: Station, distance: u32) -> u32
         requires { 1 ≤ distance }
-        ensures is { result ≡ count_at (world cells self.now) station distance }
-        ensures within { distance ≤ blocks (world cells self.now)
-            → result ≤ (blocks (world cells self.now) + 1) - distance }
+        ensures is { result ≡ count_at (world T.cells self.now) station distance }
+        ensures within { distance ≤ blocks (world T.cells self.now)
+            → result ≤ (blocks (world T.cells self.now) + 1) - distance }
     {
         if distance == 1 {
             self.starter_count(station)
@@ -127,7 +127,7 @@ impl<T: Track, L: Lamps> Line<T, L> {
     // Their metres: of those blocks, or of the home's road.
     fn metres_at(&self, station: Station, distance: u32) -> u32
         requires { 1 ≤ distance }
-        ensures { result ≡ metres_at (world cells self.now) station distance }
+        ensures { result ≡ metres_at (world T.cells self.now) station distance }
     {
         if distance <= self.frame.blocks() {
             let count = self.count_at(station, distance);
@@ -142,7 +142,7 @@ impl<T: Track, L: Lamps> Line<T, L> {
 
     pub(crate) fn aspect_at(&self, station: Station, distance: u32) -> Aspect
         requires { 1 ≤ distance }
-        ensures { result ≡ aspect_at (shows self.now.lamps) (world cells self.now)
+        ensures { result ≡ aspect_at (L.shows self.now.lamps) (world T.cells self.now)
             station distance }
     {
         let count = self.count_at(station, distance);

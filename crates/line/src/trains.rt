@@ -25,8 +25,8 @@ impl<T: Track, L: Lamps> Line<T, L> {
         station: u32,
         road: u32,
     ) -> Result<(), Refusal>
-        ensures ends { Ends (shows self.old.lamps) mark (world cells self.old)
-            (put_on number axles station road) tt result (world cells self.new) }
+        ensures ends { Ends (L.shows self.old.lamps) T.mark (world T.cells self.old)
+            (put_on number axles station road) tt result (world T.cells self.new) }
         ensures lamps { self.new.lamps ≡ self.old.lamps }
     {
         let train = self.check_put_on(number, axles, station, road)?;
@@ -41,8 +41,8 @@ impl<T: Track, L: Lamps> Line<T, L> {
 
     // Takes a train that stands in a road off the line.
     pub fn withdraw(&mut self, number: u32) -> Result<(), Refusal>
-        ensures ends { Ends (shows self.old.lamps) mark (world cells self.old)
-            (withdraw number) tt result (world cells self.new) }
+        ensures ends { Ends (L.shows self.old.lamps) T.mark (world T.cells self.old)
+            (withdraw number) tt result (world T.cells self.new) }
         ensures lamps { self.new.lamps ≡ self.old.lamps }
     {
         let gone = self.frame.check_withdraw(number)?;
@@ -53,8 +53,8 @@ impl<T: Track, L: Lamps> Line<T, L> {
 
     // Moves a train's rear one place towards its front.
     pub fn follow(&mut self, number: u32) -> Result<(), Refusal>
-        ensures ends { Ends (shows self.old.lamps) mark (world cells self.old)
-            (follow number) tt result (world cells self.new) }
+        ensures ends { Ends (L.shows self.old.lamps) T.mark (world T.cells self.old)
+            (follow number) tt result (world T.cells self.new) }
         ensures lamps { self.new.lamps ≡ self.old.lamps }
     {
         let moved = self.frame.check_follow(number)?;
@@ -65,8 +65,8 @@ impl<T: Track, L: Lamps> Line<T, L> {
 
     // Moves a train's front one place on, past a signal that shows proceed.
     pub fn advance(&mut self, number: u32) -> Result<(), Refusal>
-        ensures ends { Ends (shows self.old.lamps) mark (world cells self.old)
-            (advance number) tt result (world cells self.new) }
+        ensures ends { Ends (L.shows self.old.lamps) T.mark (world T.cells self.old)
+            (advance number) tt result (world T.cells self.new) }
         ensures lamps { self.new.lamps ≡ self.old.lamps }
     {
         let moved = self.check_advance(number)?;
@@ -84,11 +84,11 @@ impl<T: Track, L: Lamps> Line<T, L> {
         road: u32,
     ) -> Result<Train, Refusal>
         ensures row { result ≡ answer
-            (verdict (shows self.now.lamps) (world cells self.now)
+            (verdict (L.shows self.now.lamps) (world T.cells self.now)
             (put_on number axles station road))
             (standing number axles (some_station station) road) }
-        ensures kept { IfOk result (λ train. train_kept (blocks (world cells self.now)) train ≡ true) }
-        ensures laid { OnOk result (bare (world cells self.now) ≡ false) }
+        ensures kept { IfOk result (λ train. train_kept (blocks (world T.cells self.now)) train ≡ true) }
+        ensures laid { OnOk result (bare (world T.cells self.now) ≡ false) }
     {
         if !self.frame.is_laid() {
             return Err(Refusal::NotLaid);
@@ -117,7 +117,7 @@ impl<T: Track, L: Lamps> Line<T, L> {
     // The signal ahead shows stop, or the train stands in a road that the starter is not reversed for.
     fn at_stop(&self, train: Train) -> bool
         requires { train.front ≤ 16 }
-        ensures { result ≡ at_stop (shows self.now.lamps) (world cells self.now) train }
+        ensures { result ≡ at_stop (L.shows self.now.lamps) (world T.cells self.now) train }
     {
         let aspect = self.aspect_at(train.from, train.front + 1);
         let starter = self.frame.levers(train.from).starter;
@@ -127,11 +127,11 @@ impl<T: Track, L: Lamps> Line<T, L> {
     // Whether a train's front may go on, and what that comes to.
     fn check_advance(&self, number: u32) -> Result<Move, Refusal>
         ensures row { result ≡ answer
-            (verdict (shows self.now.lamps) (world cells self.now) (advance number))
-            (advancing (world cells self.now) number) }
+            (verdict (L.shows self.now.lamps) (world T.cells self.now) (advance number))
+            (advancing (world T.cells self.now) number) }
         ensures within { IfOk result (λ move. move.index < vec_len self.now.frame.trains) }
         ensures kept { IfOk result
-            (λ move. train_kept (blocks (world cells self.now)) move.train ≡ true) }
+            (λ move. train_kept (blocks (world T.cells self.now)) move.train ≡ true) }
     {
         if !self.frame.is_laid() {
             return Err(Refusal::NotLaid);

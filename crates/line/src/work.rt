@@ -1,7 +1,7 @@
 // One call in, its answer out: everything that a program does to a line.
 ghost use Rattle.std.specs.Prelude.{◌≡◌};
 ghost use Rattle.line.specs.Exact.{exact_answer, exact_after};
-ghost use Rattle.line.specs.History.{Goes_on};
+ghost use Rattle.line.specs.History.{GoesOn};
 ghost use Rattle.line.specs.Told.{asked, meant, SlipKept};
 ghost use Rattle.line.specs.Worlds.{world};
 
@@ -11,27 +11,27 @@ use lamps::Lamps;
 use track::Track;
 
 impl<T: Track, L: Lamps> Line<T, L> {
-    // Whatever calls came before, on a line that was new, and in whatever order: the answer is that of the rules, and so
-    // is what the call leaves, and of that every promise holds.
+    // Whatever calls came before, on a line that was new, and in whatever order: the answer is that of the rules, and
+    // so is what the call leaves, and of that every promise holds.
     pub fn work(&mut self, call: Call) -> Answer
-        ensures answer { meant result ≡ exact_answer (shows self.old.lamps) mark
-            (world cells self.old) (asked call) }
-        ensures after { world cells self.new ≡ exact_after (shows self.old.lamps) mark
-            (world cells self.old) (asked call) }
+        ensures answer { meant result ≡ exact_answer (L.shows self.old.lamps) T.mark
+            (world T.cells self.old) (asked call) }
+        ensures after { world T.cells self.new ≡ exact_after (L.shows self.old.lamps) T.mark
+            (world T.cells self.old) (asked call) }
         ensures lamps { self.new.lamps ≡ self.old.lamps }
         ensures slip { SlipKept call result }
-        ensures history { Goes_on (shows self.old.lamps) mark (world cells self.old)
-            (asked call) (meant result) (world cells self.new) }
+        ensures history { GoesOn (L.shows self.old.lamps) T.mark (world T.cells self.old)
+            (asked call) (meant result) (world T.cells self.new) }
     {
         self.carry_out(call)
     }
 
     // The same without the history, which would otherwise be owed once an arm.
     fn carry_out(&mut self, call: Call) -> Answer
-        ensures answer { meant result ≡ exact_answer (shows self.old.lamps) mark
-            (world cells self.old) (asked call) }
-        ensures after { world cells self.new ≡ exact_after (shows self.old.lamps) mark
-            (world cells self.old) (asked call) }
+        ensures answer { meant result ≡ exact_answer (L.shows self.old.lamps) T.mark
+            (world T.cells self.old) (asked call) }
+        ensures after { world T.cells self.new ≡ exact_after (L.shows self.old.lamps) T.mark
+            (world T.cells self.old) (asked call) }
         ensures lamps { self.new.lamps ≡ self.old.lamps }
         ensures slip { SlipKept call result }
     {

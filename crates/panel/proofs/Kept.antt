@@ -1,6 +1,7 @@
 -- What a lamp test lights, and that what it keeps gives the panel back.
 use Rattle.std.proofs.Common.{◌≡◌, ℕ, List, length, take, drop, arith}
-use Rattle.std.proofs.lemmas.List.{length-append, length-replicate, length-drop, length-take-le, take_at, drop_at, take-append-drop, places}
+use Rattle.std.proofs.lemmas.List.{length-append, length-replicate, length-drop, length-take-le, take_at, drop_at}
+use Rattle.std.proofs.lemmas.List.{take-append-drop, places}
 use Rattle.panel.specs.LampTests.{lamps, under_test, kept_of, restored, AllLit, Lights}
 
 same_length : (bytes : List ℕ) → length (under_test bytes) ≡ length bytes

@@ -24,7 +24,7 @@ pub trait Watcher {
 
 // One look. The test ends with the function.
 pub fn look_once<W: Watcher>(panel: &mut [u8], watcher: &W) -> Result<(), Fault>
-    ensures found { result ≡ finds watcher.now (under_test panel.old) }
+    ensures found { result ≡ W.finds watcher.now (under_test panel.old) }
     ensures same { panel.new ≡ panel.old }
 {
     let lit_panel = LampTest::start(panel);
@@ -33,7 +33,7 @@ pub fn look_once<W: Watcher>(panel: &mut [u8], watcher: &W) -> Result<(), Fault>
 
 // Two looks. The test ends with the first that finds a fault.
 pub fn look_twice<W: Watcher>(panel: &mut [u8], one: &W, other: &W) -> Result<(), Fault>
-    ensures found { result ≡ in_turn (finds one.now) (finds other.now) panel.old }
+    ensures found { result ≡ in_turn (W.finds one.now) (W.finds other.now) panel.old }
     ensures same { panel.new ≡ panel.old }
 {
     let test = LampTest::start(panel);
@@ -43,7 +43,7 @@ pub fn look_twice<W: Watcher>(panel: &mut [u8], one: &W, other: &W) -> Result<()
 
 // One look, at a whole panel only. The test of a short one ends at once.
 pub fn look_if_whole<W: Watcher>(panel: &mut [u8], watcher: &W) -> Result<(), Fault>
-    ensures found { result ≡ if_whole (finds watcher.now) panel.old }
+    ensures found { result ≡ if_whole (W.finds watcher.now) panel.old }
     ensures same { panel.new ≡ panel.old }
 {
     let test = LampTest::start(panel);
@@ -58,7 +58,7 @@ pub fn look_lit_and_after<W: Watcher>(
     panel: &mut [u8],
     watcher: &W,
 ) -> (Result<(), Fault>, Result<(), Fault>)
-    ensures found { result ≡ lit_and_after (finds watcher.now) panel.old }
+    ensures found { result ≡ lit_and_after (W.finds watcher.now) panel.old }
     ensures same { panel.new ≡ panel.old }
 {
     let test = LampTest::start(panel);

@@ -1,4 +1,6 @@
 // The bytes of a lamp panel, and the lamp test.
+#![tactic(auto)]
+
 ghost use Rattle.std.specs.Prelude.{◌≡◌, ◌≤◌, length};
 ghost use Rattle.panel.specs.LampTests.{lamps, lit_first, overlaid, under_test, kept_of, restored, AllLit, Lights};
 

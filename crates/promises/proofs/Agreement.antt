@@ -1,5 +1,6 @@
 -- Trains, closings and track agree, and an entering or a leaving that the track is told of keeps it so.
-use Rattle.std.proofs.Common.{◌≡◌, ℕ, ◌+◌, ◌-◌, ◌*◌, ◌≤◌, Bool, true, false, cond, eqb, List, length, get_or, set, Some, None, Option, refl, ap, ◌∙◌, inl, inr, one-mul, zero-mul, arith}
+use Rattle.std.proofs.Common.{◌≡◌, ℕ, ◌+◌, ◌-◌, ◌*◌, ◌≤◌, Bool, true, false, cond, eqb, List, length, get_or, set}
+use Rattle.std.proofs.Common.{Some, None, Option, refl, ap, ◌∙◌, inl, inr, one-mul, zero-mul, arith}
 use Rattle.std.proofs.lemmas.List.{length-set, get_or-set_same, get_or-set_other, get_or_past, set_past}
 use Rattle.std.proofs.lemmas.Bool.{cases_Bool, cases_eq, cases_lt, eqb-true, eq-eqb, both_ways, not-false}
 use Rattle.rules.specs.Detection.{cell_of, state_of, state_number, legal_section, legal_axles, with_held}

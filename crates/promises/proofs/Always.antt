@@ -1,6 +1,8 @@
 -- What always holds: on a new line, after any call, after every list of calls.
-use Rattle.std.proofs.Common.{◌≡◌, ℕ, ◌-◌, ◌≤◌, Bool, true, false, cond, not, ◌&&◌, eqb, ltb, leb, List, [], ◌∷◌, length, set, Some, None, Option, refl, inl, inr, arith}
-use Rattle.std.proofs.lemmas.Bool.{and_parts, or_parts, both_ways, not-false, ltb-false, eqb-false, leb-true, le-leb, and_from}
+use Rattle.std.proofs.Common.{◌≡◌, ℕ, ◌-◌, ◌≤◌, Bool, true, false, cond, not, ◌&&◌, eqb, ltb, leb, List, [], ◌∷◌}
+use Rattle.std.proofs.Common.{length, set, Some, None, Option, refl, inl, inr, arith}
+use Rattle.std.proofs.lemmas.Bool.{and_parts, or_parts, both_ways, not-false, ltb-false, eqb-false, leb-true, le-leb}
+use Rattle.std.proofs.lemmas.Bool.{and_from}
 use Rattle.rules.specs.Calls.{Call, lay, direction, starter, home, put_on, withdraw, advance, follow, fail, mend}
 use Rattle.rules.specs.Calls.{close, hand_in, ask_signal, ask_name, paint, rows, verdict, effect, line_after}
 use Rattle.rules.specs.Calls.{some_station, with_closed, good_plan, all_clear}

@@ -1,10 +1,12 @@
 -- The foremost train on its way in: what each advance and follow needs, and what comes of a list of them.
-use Rattle.std.proofs.Common.{◌≡◌, ℕ, zero, suc, ◌+◌, ◌-◌, ◌<◌, ◌≤◌, true, false, cond, eqb, List, [], ◌∷◌, length, get_or, set, is_some, Some, None, unwrap_or, sym, refl, ap, ◌∙◌, inl, inr, arith}
+use Rattle.std.proofs.Common.{◌≡◌, ℕ, zero, suc, ◌+◌, ◌-◌, ◌<◌, ◌≤◌, true, false, cond, eqb, List, [], ◌∷◌, length}
+use Rattle.std.proofs.Common.{get_or, set, is_some, Some, None, unwrap_or, sym, refl, ap, ◌∙◌, inl, inr, arith}
 use Rattle.std.proofs.ByRecursion.{All-get_or}
 use Rattle.std.proofs.lemmas.List.{length-set, get_or-set_same, get_or-set_other}
-use Rattle.std.proofs.lemmas.Bool.{and_from, and_left, cases_eq, eqb-false, eq-eqb, ne_eqb, le-leb, lt-leb, not-true, not_from_false, or_from, or_left, or_right}
+use Rattle.std.proofs.lemmas.Bool.{and_from, and_left, cases_eq, eqb-false, eq-eqb, ne_eqb, le-leb, lt-leb, not-true}
+use Rattle.std.proofs.lemmas.Bool.{not_from_false, or_from, or_left, or_right}
 use Rattle.rules.specs.Aspects.{aspect_number}
-use Rattle.rules.specs.Calls.{Call, advance, follow, home, verdict, effect, line_after, train_index, train_of}
+use Rattle.rules.specs.Calls.{Call, advance, follow, verdict, effect, line_after, train_index, train_of}
 use Rattle.rules.specs.Calls.{no_train, front_moved, rear_moved, standing, ended, at_stop, reversed}
 use Rattle.rules.specs.Detection.{cell_of}
 use Rattle.rules.specs.Lines.{Line, blocks, roads, levers_at, clear, closed_at, state_at}

@@ -1,7 +1,7 @@
 -- How each train fits the line, and what its sections are.
 use Rattle.std.proofs.Common.{◌≡◌, ℕ, ◌+◌, ◌<◌, ◌≤◌, true, refl, inl, inr, arith}
 use Rattle.std.proofs.lemmas.Bool.{ne_eqb, le-leb, lt-leb, and_from, cases_lt}
-use Rattle.rules.specs.Detection.{legal_axles, legal_section}
+use Rattle.rules.specs.Detection.{legal_section}
 use Rattle.rules.specs.Lines.{section_of}
 use Rattle.rules.specs.Stations.{place_from, road_section, other_end}
 use Rattle.rules.specs.declared.line.Station.{Station}

@@ -1,8 +1,10 @@
 -- There is a foremost train, and nothing stands ahead of it.
-use Rattle.std.proofs.Common.{◌≡◌, ℕ, zero, suc, ◌+◌, ◌-◌, ◌<◌, ◌≤◌, true, false, ◌&&◌, List, [], ◌∷◌, length, get_or, refl, ◌∙◌, inl, inr, add-zero, arith}
+use Rattle.std.proofs.Common.{◌≡◌, ℕ, zero, suc, ◌+◌, ◌-◌, ◌<◌, ◌≤◌, true, false, ◌&&◌, List, [], ◌∷◌, length, get_or}
+use Rattle.std.proofs.Common.{refl, ◌∙◌, inl, inr, add-zero, arith}
 use Rattle.std.proofs.ByRecursion.{All-get_or}
 use Rattle.std.proofs.lemmas.List.Sums.{sum_by-cons}
-use Rattle.std.proofs.lemmas.Bool.{or_cases, or_left, or_right, cases_lt, cases_eq, both_ways, le-leb, and_from, eq-eqb, ne_eqb, not_from_false}
+use Rattle.std.proofs.lemmas.Bool.{or_cases, or_left, or_right, cases_lt, cases_eq, both_ways, le-leb, and_from}
+use Rattle.std.proofs.lemmas.Bool.{eq-eqb, ne_eqb, not_from_false}
 use Rattle.rules.specs.Calls.{no_train}
 use Rattle.rules.specs.Detection.{cell_of}
 use Rattle.rules.specs.Lines.{Line, blocks, roads, sends, clear, state_at, section_of, holds, holds_from, in_use}
@@ -138,10 +140,10 @@ module _ (mark : ℕ → ℕ) (line : Line) (sound : Sound mark line) (f : ℕ) 
   -- no train stands in a block ahead of it
   none_ahead : (d : ℕ) → leader.front < d → d ≤ n → (j : ℕ) → j < length line.trains
       → times n (place_from n leader.from d) (train_at line j) ≡ 0
-  none_ahead d past short j in_List =
+  none_ahead d past short j in_list =
       let train = train_at line j in
-      let fit = All-get_or (Fits n (roads line)) line.trains j no_train in_List sound.fits in
-      let behind = furthest j in_List in
+      let fit = All-get_or (Fits n (roads line)) line.trains j no_train in_list sound.fits in
+      let behind = furthest j in_list in
       let bounds = block_bounds n d leader.from (omega arith) short in
       absent_from n train _ train.rear ((train.front + 1) - train.rear) (λ e low high here.
       elim (cases_lt e 1) [
@@ -152,7 +154,7 @@ module _ (mark : ℕ → ℕ) (line : Line) (sound : Sound mark line) (f : ℕ) 
             (arith, above_16 train.from train.road fit.road_low, bounds.1, sound.limits.most))
         | inr on ↦
             let reach : e ≤ train.front = omega (arith, fit.behind) in
-            let way = All-get_or (Away line) line.trains j no_train in_List sound.way (omega arith) in
+            let way = All-get_or (Away line) line.trains j no_train in_list sound.way (omega arith) in
             let same = one_sender line train.from leader.from sound.one_way way sender in
             let block : e ≤ n = omega arith in
             let at = rw (in_block n train e on block, same) at here in

@@ -1,5 +1,6 @@
 -- The lever frame shows one of ten rows.
-use Rattle.std.proofs.Common.{◌≡◌, Bool, true, false, cond, not, ◌&&◌, eqb, [], ◌∷◌, ◌++◌, is_some, Some, None, Option, refl, inl, inr}
+use Rattle.std.proofs.Common.{◌≡◌, Bool, true, false, cond, not, ◌&&◌, eqb, [], ◌∷◌, ◌++◌, is_some, Some, None}
+use Rattle.std.proofs.Common.{Option, refl, inl, inr}
 use Rattle.std.proofs.lemmas.Bool.{both_ways}
 use Rattle.rules.specs.Calls.{some_station, direction, rows, verdict, reversed}
 use Rattle.rules.specs.LineRuns.{after_all}

@@ -1,7 +1,9 @@
 -- A train that can come in is brought in: the home set for a clear road, then as the train comes.
-use Rattle.std.proofs.Common.{◌≡◌, ℕ, suc, ◌+◌, ◌-◌, ◌*◌, ◌<◌, ◌≤◌, true, false, ◌&&◌, eqb, List, [], ◌∷◌, length, get_or, is_some, None, sym, refl, ap, ◌∙◌, inl, inr, arith}
+use Rattle.std.proofs.Common.{◌≡◌, ℕ, suc, ◌+◌, ◌-◌, ◌*◌, ◌<◌, ◌≤◌, true, false, ◌&&◌, eqb, List, [], ◌∷◌, length}
+use Rattle.std.proofs.Common.{get_or, is_some, None, sym, refl, ap, ◌∙◌, inl, inr, arith}
 use Rattle.std.proofs.ByRecursion.{All-get_or}
-use Rattle.std.proofs.lemmas.Bool.{and_from, and_left, and_right, cases_Bool, cases_lt, cases_eq, both_ways, ne_eqb, le-leb, not_from_false, or_from, le-ltb}
+use Rattle.std.proofs.lemmas.Bool.{and_from, and_left, and_right, cases_Bool, cases_lt, cases_eq, both_ways, ne_eqb}
+use Rattle.std.proofs.lemmas.Bool.{le-leb, not_from_false, or_from, le-ltb}
 use Rattle.rules.specs.Calls.{home, verdict, line_after}
 use Rattle.rules.specs.Calls.{with_levers, home_put, home_held, there_already}
 use Rattle.rules.specs.Calls.{no_train, reversed}
@@ -244,18 +246,18 @@ module _ (shows : Shows) (lamps : LawfulLamps shows) (mark : ℕ → ℕ) (lawfu
   -- a train that holds a block is away from its station
   held_away : (line : Line) → Sound mark line → (j : ℕ) → j < length line.trains
       → holds_a_block line (train_at line j) ≡ true → 1 ≤ (train_at line j).front
-  held_away line sound j in_List h =
+  held_away line sound j in_list h =
       let at = some_held (blocks line) (train_at line j) (blocks line) h in
-      holds_block_away shows lamps mark lawful line sound j at.0 in_List
+      holds_block_away shows lamps mark lawful line sound j at.0 in_list
       (and_from _ _ (le-leb 1 at.0 at.1) (le-leb at.0 (blocks line) at.2)) at.3
 
   -- a line with a train in a block has a foremost one
   some_foremost : (line : Line) → Sound mark line → (i : ℕ) → i < length line.trains
       → holds_a_block line (train_at line i) ≡ true → (f : ℕ) × Foremost line f
-  some_foremost line sound i in_List h =
+  some_foremost line sound i in_list h =
       let best = furthest_front line.trains (omega arith) in
       let f = best.0 in
-      let out : 1 ≤ (train_at line f).front = omega (arith, held_away line sound i in_List h, best.2 i in_List) in
+      let out : 1 ≤ (train_at line f).front = omega (arith, held_away line sound i in_list h, best.2 i in_list) in
       let fits = All-get_or (Fits (blocks line) (roads line)) line.trains f no_train best.1 sound.fits in (
         f,
         record {
@@ -268,12 +270,12 @@ module _ (shows : Shows) (lamps : LawfulLamps shows) (mark : ℕ → ℕ) (lawfu
   -- no front is further on than that of a foremost train, in a block or not
   foremost_of_all : (line : Line) → Sound mark line → (f : ℕ) → Foremost line f → (j : ℕ) → j < length line.trains
       → (train_at line j).front ≤ (train_at line f).front
-  foremost_of_all line sound f foremost j in_List =
-      let fits = All-get_or (Fits (blocks line) (roads line)) line.trains j no_train in_List sound.fits in
+  foremost_of_all line sound f foremost j in_list =
+      let fits = All-get_or (Fits (blocks line) (roads line)) line.trains j no_train in_list sound.fits in
       elim (cases_lt (train_at line j).front 1) [
         | inl still ↦ omega arith
         | inr out ↦
-            foremost.furthest j in_List
+            foremost.furthest j in_list
             (away_holds (blocks line) (roads line) (train_at line j) sound.limits.some fits out)
       ]
 
@@ -295,7 +297,7 @@ gets_in shows lamps mark lawful cells sized calls =
     elim (always shows lamps mark lawful cells sized calls) [
       | inl blank ↦
           let none : length line.trains ≡ 0 = ap length blank.no_trains in
-          (λ i in_List h. absurd (omega arith), λ f foremost order way. absurd (omega (arith, foremost.on_line)))
+          (λ i in_list h. absurd (omega arith), λ f foremost order way. absurd (omega (arith, foremost.on_line)))
       | inr sound ↦
           let distinct = distinct_always shows mark (new_line cells) calls tt in (
             some_foremost shows lamps mark lawful line sound,

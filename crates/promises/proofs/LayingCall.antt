@@ -1,10 +1,11 @@
 -- Laying makes a bare line one of which all holds that always holds of a laid line.
-use Rattle.std.proofs.Common.{◌≡◌, ℕ, zero, suc, ◌+◌, ◌-◌, ◌≤◌, true, false, eqb, leb, List, length, get_or, refl, inl, inr, arith}
+use Rattle.std.proofs.Common.{◌≡◌, ℕ, zero, suc, ◌+◌, ◌-◌, ◌≤◌, true, false, eqb, leb, List, length, get_or, refl}
+use Rattle.std.proofs.Common.{inl, inr, arith}
 use Rattle.std.proofs.lemmas.List.{get_or-replicate, get_or_past, length-replicate}
 use Rattle.std.proofs.lemmas.Bool.{and_parts, leb-true, cases_lt, cases_eq, both_ways, eqb-true}
 use Rattle.rules.specs.Calls.{good_plan, all_vacant, legal_entries, names_differ, as_laid}
 use Rattle.rules.specs.Detection.{cell_of}
-use Rattle.rules.specs.Lines.{Line, all_open, new_levers, blocks, roads_of, levers_at, state_at, roads}
+use Rattle.rules.specs.Lines.{Line, all_open, new_levers, roads_of, levers_at, state_at, roads}
 use Rattle.rules.specs.Table.{within}
 use Rattle.rules.specs.declared.line.Laying.{Laying}
 use Rattle.rules.specs.declared.line.Levers.{Levers}

@@ -1,9 +1,10 @@
 -- Direction, starter and home: what always holds goes on holding.
-use Rattle.std.proofs.Common.{◌≡◌, ℕ, zero, suc, ◌<◌, ◌≤◌, true, false, cond, not, ◌&&◌, eqb, length, get_or, refl, ◌∙◌, inl, inr, arith}
+use Rattle.std.proofs.Common.{◌≡◌, ℕ, zero, suc, ◌<◌, ◌≤◌, true, false, cond, not, ◌&&◌, eqb, length, get_or, refl}
+use Rattle.std.proofs.Common.{◌∙◌, inl, inr, arith}
 use Rattle.std.proofs.ByRecursion.{All-get_or, All-from_get_or, All-weaker}
 use Rattle.std.proofs.lemmas.List.Sums.{get_or-le-sum_by}
 use Rattle.std.proofs.lemmas.Bool.{and_parts, cases_Bool, cases_eq, both_ways, eqb-true, eqb-false, not-false}
-use Rattle.std.specs.List.{AllByRecursion as All}
+use Rattle.std.specs.List.{AllByRecursion}
 use Rattle.rules.specs.Calls.{all_clear, reversed, no_train, with_levers, turned, starter_put, home_put}
 use Rattle.rules.specs.Lines.{Line, blocks, roads, levers_at, sends, clear, section_of}
 use Rattle.rules.specs.Stations.{other_end}
@@ -47,10 +48,10 @@ module _ (mark : ℕ → ℕ) (lawful : Lawful mark) (line : Line) (sound : Soun
   -- where all blocks are clear, no train is away
   pub none_away : all_clear line (blocks line) ≡ true → (i : ℕ) → i < length line.trains
       → 1 ≤ (get_or line.trains i no_train).front → ⊥
-  none_away all i in_List out =
+  none_away all i in_list out =
       let n = blocks line in
       let train = get_or line.trains i no_train in
-      let fit = All-get_or (Fits n (roads line)) line.trains i no_train in_List sound.fits in
+      let fit = All-get_or (Fits n (roads line)) line.trains i no_train in_list sound.fits in
       let d = held_block train in
       let block = holds_block n (roads line) train sound.limits.some fit out in
       let at = in_block n train d block.0 block.1 in
@@ -59,7 +60,7 @@ module _ (mark : ℕ → ℕ) (lawful : Lawful mark) (line : Line) (sound : Soun
       let legal = sections_legal n (roads line) train sound.limits fit d block.3 in
       let is_clear : clear line s ≡ true = rw at (each_clear line n _ all bounds.0 bounds.1) in
       let here = stands_between n train d block.2 block.3 in
-      let told = get_or-le-sum_by (times n s) line.trains i no_train in_List in
+      let told = get_or-le-sum_by (times n s) line.trains i no_train in_list in
       omega (arith, clear_empty mark lawful line sound s legal is_clear)
 
   -- levers of one station changed
@@ -79,10 +80,10 @@ module _ (mark : ℕ → ℕ) (lawful : Lawful mark) (line : Line) (sound : Soun
       by_ends EndB EndB ok = ok
 
     -- the changed levers right, the trains away from a station that still sends, and not both sending
-    pub levers_changed : LeversRight (roads line station) new → All (Away then) line.trains
+    pub levers_changed : LeversRight (roads line station) new → AllByRecursion (Away then) line.trains
         → (sends then EndA && sends then EndB) ≡ false → Sound mark then
     levers_changed right way one_way = by_end station way one_way (both_right right) where
-      by_end : (changed : Station) → All (Away (with_levers line changed new)) line.trains
+      by_end : (changed : Station) → AllByRecursion (Away (with_levers line changed new)) line.trains
           → (sends (with_levers line changed new) EndA && sends (with_levers line changed new) EndB) ≡ false
           → ((end : Station)
           → LeversRight (roads (with_levers line changed new) end) (levers_at (with_levers line changed new) end))
@@ -129,7 +130,8 @@ module _ (mark : ℕ → ℕ) (lawful : Lawful mark) (line : Line) (sound : Soun
       by_ends EndB EndA e h = h
       by_ends EndB EndB e h = e ∙ h
 
-    way_kept : ((from : Station) → sends line from ≡ true → sends then from ≡ true) → All (Away then) line.trains
+    way_kept : ((from : Station) → sends line from ≡ true → sends then from ≡ true)
+        → AllByRecursion (Away then) line.trains
     way_kept keeps =
         All-weaker (Away line) (Away then) (λ train away out. keeps train.from (away out)) line.trains
         sound.way
@@ -163,7 +165,7 @@ module _ (mark : ℕ → ℕ) (lawful : Lawful mark) (line : Line) (sound : Soun
         home_way = λ _. refl;
       })
       (All-from_get_or (Away (with_levers line station new)) line.trains no_train
-      (λ i in_List out. absurd (none_away all i in_List out)))
+      (λ i in_list out. absurd (none_away all i in_list out)))
       (turned_keeps line station false refl)
 
   -- a starter or a home put to normal or to a road

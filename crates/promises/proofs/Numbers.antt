@@ -1,8 +1,9 @@
 -- No two trains bear one number, so that the search by number finds each where it stands.
-use Rattle.std.proofs.Common.{◌≡◌, ℕ, zero, suc, ◌+◌, ◌<◌, ◌≤◌, true, false, eqb, List, [], ◌∷◌, ◌++◌, length, get_or, take, drop, set, is_some, Some, sym, refl, ap, ◌∙◌, inl, inr, add-zero, add-one, arith}
+use Rattle.std.proofs.Common.{◌≡◌, ℕ, zero, suc, ◌+◌, ◌<◌, ◌≤◌, true, false, eqb, List, [], ◌∷◌, ◌++◌, length, get_or}
+use Rattle.std.proofs.Common.{take, drop, set, is_some, Some, sym, refl, ap, ◌∙◌, inl, inr, add-zero, add-one, arith}
 use Rattle.std.proofs.ByRecursion.{All-append, All-take, All-drop, All-get_or}
 use Rattle.std.proofs.lemmas.Bool.{cases_Bool, eq-eqb, ne_eqb, eqb-false, both_ways}
-use Rattle.std.specs.List.{AllByRecursion as All}
+use Rattle.std.specs.List.{AllByRecursion}
 use Rattle.rules.specs.Calls.{no_train, train_index}
 use Rattle.rules.specs.Lines.{Line}
 use Rattle.rules.specs.Searches.{first_index, search_by}
@@ -17,11 +18,11 @@ Unlike number train = train.number ≡ number → ⊥
 
 abbrev pub Distinct : List Train → Type 0
 Distinct [] = Unit {0}
-Distinct (train ∷ trains) = (1 ≤ train.number) × All (Unlike train.number) trains × Distinct trains
+Distinct (train ∷ trains) = (1 ≤ train.number) × AllByRecursion (Unlike train.number) trains × Distinct trains
 
 -- none of that number is found
 not_found : (number index : ℕ) (trains : List Train) → is_some (first_index number_of number index trains) ≡ false
-    → All (Unlike number) trains
+    → AllByRecursion (Unlike number) trains
 not_found number index [] h = tt
 not_found number index (train ∷ trains) h =
     elim (cases_Bool (eqb train.number number)) [
@@ -35,7 +36,7 @@ put_on_distinct trains new low absent distinct = push trains (not_found new.numb
   found : is_some (first_index number_of new.number 0 trains) ≡ false
   found = rw (ne_eqb new.number 0 (λ e. omega arith)) at absent
 
-  push : (rest : List Train) → All (Unlike new.number) rest → Distinct rest → Distinct (rest ++ new ∷ [])
+  push : (rest : List Train) → AllByRecursion (Unlike new.number) rest → Distinct rest → Distinct (rest ++ new ∷ [])
   push [] unlike d = (low, tt, tt)
   push (train ∷ rest) unlike d = (
     d.0,
@@ -60,7 +61,7 @@ pub removed_distinct : (trains : List Train) (i : ℕ) → Distinct trains
 removed_distinct trains i d = rw (add-one i) (removed_at trains i d)
 
 unlike_set : (number : ℕ) (trains : List Train) (i : ℕ) (new : Train) → new.number ≡ (get_or trains i no_train).number
-    → All (Unlike number) trains → All (Unlike number) (set trains i new)
+    → AllByRecursion (Unlike number) trains → AllByRecursion (Unlike number) (set trains i new)
 unlike_set number [] zero new same unlike = tt
 unlike_set number [] (suc i) new same unlike = tt
 unlike_set number (train ∷ trains) zero new same unlike = ((λ e. unlike.0 (sym same ∙ e)), unlike.1)

@@ -1,5 +1,6 @@
 -- How often the trains of a list stand in a section, and what a move changes in that.
-use Rattle.std.proofs.Common.{◌≡◌, ℕ, zero, suc, ◌+◌, ◌-◌, ◌*◌, ◌<◌, ◌≤◌, Bool, true, cond, eqb, refl, ap, ◌∙◌, inl, inr, add-zero, arith}
+use Rattle.std.proofs.Common.{◌≡◌, ℕ, zero, suc, ◌+◌, ◌-◌, ◌<◌, ◌≤◌, true, eqb, refl, ap, ◌∙◌, inl, inr, add-zero}
+use Rattle.std.proofs.Common.{arith}
 use Rattle.std.proofs.lemmas.Bool.{or_cases}
 use Rattle.rules.specs.Lines.{section_of, holds, holds_from}
 use Rattle.rules.specs.declared.line.Train.{Train}

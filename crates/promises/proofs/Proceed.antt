@@ -1,5 +1,6 @@
 -- Where a signal has something to offer, the section that it guards is clear.
-use Rattle.std.proofs.Common.{◌≡◌, ℕ, zero, suc, ◌+◌, ◌≤◌, Bool, true, false, cond, not, ◌&&◌, eqb, leb, refl, inl, inr, arith}
+use Rattle.std.proofs.Common.{◌≡◌, ℕ, zero, suc, ◌+◌, ◌≤◌, Bool, true, false, cond, not, ◌&&◌, eqb, leb, refl, inl}
+use Rattle.std.proofs.Common.{inr, arith}
 use Rattle.std.proofs.lemmas.Bool.{and_parts, cases_Bool, both_ways, le-leb, lt-leb, ne_eqb, eqb-true}
 use Rattle.rules.specs.Calls.{reversed}
 use Rattle.rules.specs.Lines.{Line, blocks, laying_of, levers_at, sends, clear}

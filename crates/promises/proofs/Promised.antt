@@ -1,9 +1,11 @@
 -- The promises over every history, from what always holds.
-use Rattle.std.proofs.Common.{◌≡◌, ℕ, zero, suc, ◌+◌, ◌-◌, ◌<◌, ◌≤◌, Bool, true, false, ◌||◌, eqb, ltb, leb, ◌++◌, length, take, drop, Some, None, Option, sym, refl, ◌∙◌, inl, inr, arith}
+use Rattle.std.proofs.Common.{◌≡◌, ℕ, zero, suc, ◌+◌, ◌-◌, ◌<◌, ◌≤◌, Bool, true, false, ◌||◌, eqb, ltb, leb, ◌++◌}
+use Rattle.std.proofs.Common.{length, take, drop, Some, None, Option, sym, refl, ◌∙◌, inl, inr, arith}
 use Rattle.std.proofs.ByRecursion.{All-get_or}
 use Rattle.std.proofs.lemmas.List.{length-take-le, length-append, length-drop}
 use Rattle.std.proofs.lemmas.List.Sums.{get_or-le-sum_by}
-use Rattle.std.proofs.lemmas.Bool.{and_parts, or_cases, or_parts, cases_lt, both_ways, not-false, eqb-true, eqb-false, leb-true, le-leb, ltb-false, and_from}
+use Rattle.std.proofs.lemmas.Bool.{and_parts, or_cases, or_parts, cases_lt, both_ways, not-false, eqb-true, eqb-false}
+use Rattle.std.proofs.lemmas.Bool.{leb-true, le-leb, ltb-false, and_from}
 use Rattle.rules.specs.Calls.{Call, lay, direction, starter, home, put_on, withdraw, advance, follow, fail, mend}
 use Rattle.rules.specs.Calls.{close, hand_in, ask_signal, ask_name, paint, rows, verdict}
 use Rattle.rules.specs.Calls.{no_train, some_station, all_clear, alike}
@@ -55,16 +57,16 @@ module _ (mark : ℕ → ℕ) (line : Line) (sound : Sound mark line) where
   n = blocks line
 
   fit_at : (i : ℕ) → i < length line.trains → Fits n (roads line) (train_at line i)
-  fit_at i in_List = All-get_or (Fits n (roads line)) line.trains i no_train in_List sound.fits
+  fit_at i in_list = All-get_or (Fits n (roads line)) line.trains i no_train in_list sound.fits
 
   held_legal : (i s : ℕ) → i < length line.trains → holds n (train_at line i) s ≡ true → legal_section s ≡ true
-  held_legal i s in_List h =
-      let at = held_at n (roads line) (train_at line i) s (fit_at i in_List) h in
-      rw (sym at.1) (sections_legal n (roads line) (train_at line i) sound.limits (fit_at i in_List) at.0 at.3)
+  held_legal i s in_list h =
+      let at = held_at n (roads line) (train_at line i) s (fit_at i in_list) h in
+      rw (sym at.1) (sections_legal n (roads line) (train_at line i) sound.limits (fit_at i in_list) at.0 at.3)
 
   apart_of : TrainsApart line
   apart_of = record {
-    no_two = λ i j s before in_List first second.
+    no_two = λ i j s before in_list first second.
         let trains = line.trains in
         let in_list_i : i < length trains = omega arith in
         let one = sound.agree.one s (held_legal i s in_list_i first) in
@@ -77,15 +79,15 @@ module _ (mark : ℕ → ℕ) (line : Line) (sound : Sound mark line) where
           removed (times n s) trains i no_train in_list_i,
           stands n (train_at line i) s first,
           stands n (train_at line j) s second,
-          rw (later_one trains i j before in_List) at seen,
+          rw (later_one trains i j before in_list) at seen,
         );
-    none_closed = λ i s in_List h shut.
-        let legal = held_legal i s in_List h in
+    none_closed = λ i s in_list h shut.
+        let legal = held_legal i s in_list h in
         omega (
           arith,
           sound.agree.unshut s legal shut,
           stands n (train_at line i) s h,
-          get_or-le-sum_by (times n s) line.trains i no_train in_List,
+          get_or-le-sum_by (times n s) line.trains i no_train in_list,
         );
   }
 
@@ -190,9 +192,9 @@ module _ (shows : Shows) (lamps : LawfulLamps shows) (mark : ℕ → ℕ) (lawfu
   -- a train that holds a block is away from the station it left
   pub holds_block_away : (i block : ℕ) → i < length line.trains → within 1 (blocks line) block ≡ true
       → holds (blocks line) (train_at line i) block ≡ true → 1 ≤ (train_at line i).front
-  holds_block_away i block in_List in_line h =
+  holds_block_away i block in_list in_line h =
       let train = train_at line i in
-      let fit = fit_at mark line sound i in_List in
+      let fit = fit_at mark line sound i in_list in
       let at = held_at (blocks line) (roads line) train block fit h in
       let high = leb-true block (blocks line) (and_parts (leb 1 block) (leb block (blocks line)) in_line).1 in
       elim (cases_lt train.front 1) [
@@ -213,27 +215,27 @@ module _ (shows : Shows) (lamps : LawfulLamps shows) (mark : ℕ → ℕ) (lawfu
   locked : (i block : ℕ) → i < length line.trains → within 1 (blocks line) block ≡ true
       → holds (blocks line) (train_at line i) block ≡ true
       → (m : ℕ) (send : Bool) → verdict shows line (direction m send) ≡ None → ⊥
-  locked i block in_List in_line h m true none =
+  locked i block in_list in_line h m true none =
       let passed = none_hold (rows shows line (direction m true)) none in
-      let out = holds_block_away i block in_List in_line h in
-      let away = All-get_or (Away line) line.trains i no_train in_List sound.way out in
+      let out = holds_block_away i block in_list in_line h in
+      let away = All-get_or (Away line) line.trains i no_train in_list sound.way out in
       let silent : sends line (some_station m) ≡ false = not_there (sends line (some_station m)) passed.1.1.0 in
       both_ways _ passed.1.1.1.0
       (far_sends (some_station m) (train_at line i).from away silent) where
         not_there : (b : Bool) → alike b true ≡ false → b ≡ false
         not_there true e = e
         not_there false e = refl
-  locked i block in_List in_line h m false none =
+  locked i block in_list in_line h m false none =
       let passed = none_hold (rows shows line (direction m false)) none in
-      let out = holds_block_away i block in_List in_line h in
+      let out = holds_block_away i block in_list in_line h in
       none_away mark lawful line sound
-      (not-false (all_clear line (blocks line)) passed.1.1.1.1.1.0) i in_List out
+      (not-false (all_clear line (blocks line)) passed.1.1.1.1.1.0) i in_list out
 
 -- a bare line has no train, and tells its track nothing
 bare_apart : (line : Line) → Blank line → TrainsApart line
 bare_apart line blank = record {
-  no_two = λ i j s before in_List first second. absurd (omega (arith, rw blank.no_trains at in_List));
-  none_closed = λ i s in_List h shut. absurd (omega (arith, rw blank.no_trains at in_List));
+  no_two = λ i j s before in_list first second. absurd (omega (arith, rw blank.no_trains at in_list));
+  none_closed = λ i s in_list h shut. absurd (omega (arith, rw blank.no_trains at in_list));
 }
 
 pub bare_tells_nothing : (shows : Shows) (line : Line) → Blank line → (c : Call) → verdict shows line c ≡ None
@@ -279,11 +281,11 @@ no_surprise shows lamps mark lawful cells sized calls c told none h =
     ]
 
 pub direction_locked : DirectionLocked
-direction_locked shows lamps mark lawful cells sized calls i block in_List in_line h m send =
+direction_locked shows lamps mark lawful cells sized calls i block in_list in_line h m send =
     let line = after_all shows mark (new_line cells) calls in
     elim (always shows lamps mark lawful cells sized calls) [
-      | inl blank ↦ absurd (omega (arith, rw blank.no_trains at in_List))
+      | inl blank ↦ absurd (omega (arith, rw blank.no_trains at in_list))
       | inr sound ↦
           some_row (verdict shows line (direction m send))
-          (locked shows lamps mark lawful line sound i block in_List in_line h m send)
+          (locked shows lamps mark lawful line sound i block in_list in_line h m send)
     ]

@@ -1,11 +1,12 @@
 -- Never more trains than sections in use: each stands in one of them, and none in another's.
-use Rattle.std.proofs.Common.{◌≡◌, ℕ, ◌+◌, ◌-◌, ◌<◌, ◌≤◌, true, List, [], ◌∷◌, ◌++◌, length, get_or, sum_by, sym, refl, ap, ◌∙◌, inl, inr, arith}
+use Rattle.std.proofs.Common.{◌≡◌, ℕ, ◌+◌, ◌-◌, ◌<◌, ◌≤◌, true, List, [], ◌∷◌, ◌++◌, length, get_or, sum_by, sym}
+use Rattle.std.proofs.Common.{refl, ap, ◌∙◌, inl, inr, arith}
 use Rattle.std.proofs.lemmas.List.FromFn.{length-range_with_len, get_or-range_with_len}
 use Rattle.std.proofs.ByRecursion.{All-from_get_or, All-weaker, sum_by_le}
 use Rattle.std.proofs.lemmas.List.{length-append, get_or_append_left, get_or-append_right}
 use Rattle.std.proofs.lemmas.List.Sums.{sum_by-cons, get_or-le-sum_by}
 use Rattle.std.proofs.lemmas.Bool.{cases_lt}
-use Rattle.std.specs.List.{range_with_len, AllByRecursion as All}
+use Rattle.std.specs.List.{range_with_len, AllByRecursion}
 use Rattle.rules.specs.Detection.{legal_section}
 use Rattle.rules.specs.LineRuns.{after_all}
 use Rattle.rules.specs.Lines.{Line, new_line, blocks, roads, section_of}
@@ -42,7 +43,8 @@ either_order n (s ∷ sections) trains =
     ∙ sym (sum_both (times n s) (λ t. sum_by (λ r. times n r t) sections) trains)
     ∙ sum_same _ _ (λ t. sym (sum_by-cons (λ r. times n r t) s sections)) trains
 
-at_least_one_each : (g : Train → ℕ) (trains : List Train) → All (λ t. 1 ≤ g t) trains → length trains ≤ sum_by g trains
+at_least_one_each : (g : Train → ℕ) (trains : List Train) → AllByRecursion (λ t. 1 ≤ g t) trains
+    → length trains ≤ sum_by g trains
 at_least_one_each g [] all = omega arith
 at_least_one_each g (t ∷ trains) all =
     omega (arith, sum_by-cons g t trains, all.0, at_least_one_each g trains all.1)
@@ -57,13 +59,15 @@ used_length n a b =
 
 used_block : (n a b k : ℕ) → k < n → get_or (used n a b) k 0 ≡ 1 + k
 used_block n a b k h =
-    get_or_append_left (range_with_len 1 n) (range_with_len 17 a ++ range_with_len 21 b) 0 k (omega (arith, length-range_with_len 1 n))
+    get_or_append_left (range_with_len 1 n) (range_with_len 17 a ++ range_with_len 21 b) 0 k
+    (omega (arith, length-range_with_len 1 n))
     ∙ get_or-range_with_len 1 n k 0 h
 
 used_road_a : (n a b k : ℕ) → k < a → get_or (used n a b) (n + k) 0 ≡ 17 + k
 used_road_a n a b k h =
     let back : (n + k) - n ≡ k = omega arith in
-    get_or-append_right (range_with_len 1 n) (range_with_len 17 a ++ range_with_len 21 b) n (n + k) 0 (length-range_with_len 1 n) (omega arith)
+    get_or-append_right (range_with_len 1 n) (range_with_len 17 a ++ range_with_len 21 b) n (n + k) 0
+    (length-range_with_len 1 n) (omega arith)
     ∙ ap (λ i. get_or (range_with_len 17 a ++ range_with_len 21 b) i 0) back
     ∙ get_or_append_left (range_with_len 17 a) (range_with_len 21 b) 0 k (omega (arith, length-range_with_len 17 a))
     ∙ get_or-range_with_len 17 a k 0 h
@@ -72,10 +76,12 @@ used_road_b : (n a b k : ℕ) → k < b → get_or (used n a b) (n + a + k) 0 �
 used_road_b n a b k h =
     let back : (n + a + k) - n ≡ a + k = omega arith in
     let again : (a + k) - a ≡ k = omega arith in
-    get_or-append_right (range_with_len 1 n) (range_with_len 17 a ++ range_with_len 21 b) n (n + a + k) 0 (length-range_with_len 1 n)
+    get_or-append_right (range_with_len 1 n) (range_with_len 17 a ++ range_with_len 21 b) n (n + a + k) 0
+    (length-range_with_len 1 n)
     (omega arith)
     ∙ ap (λ i. get_or (range_with_len 17 a ++ range_with_len 21 b) i 0) back
-    ∙ get_or-append_right (range_with_len 17 a) (range_with_len 21 b) a (a + k) 0 (length-range_with_len 17 a) (omega arith)
+    ∙ get_or-append_right (range_with_len 17 a) (range_with_len 21 b) a (a + k) 0 (length-range_with_len 17 a)
+    (omega arith)
     ∙ ap (λ i. get_or (range_with_len 21 b) i 0) again
     ∙ get_or-range_with_len 21 b k 0 h
 
@@ -122,7 +128,7 @@ stands_somewhere n roads train fit =
 
 used_legal : (n : ℕ) (roads : Station → ℕ) → Limits n roads → (k : ℕ) → k < length (used n (roads EndA) (roads EndB))
     → legal_section (get_or (used n (roads EndA) (roads EndB)) k 0) ≡ true
-used_legal n roads limits k in_List =
+used_legal n roads limits k in_list =
     let a = roads EndA in
     let b = roads EndB in
     let few_a = limits.few EndA in
@@ -153,7 +159,7 @@ no_more_than_sections mark line sound =
     (stands_somewhere n (roads line)) line.trains sound.fits) in
     let most = sum_by_le (λ s. total n s line.trains) 1 sections
     (All-from_get_or (λ s. total n s line.trains ≤ 1) sections 0
-    (λ k in_List. sound.agree.one _ (used_legal n (roads line) sound.limits k in_List))) in
+    (λ k in_list. sound.agree.one _ (used_legal n (roads line) sound.limits k in_list))) in
     omega (
       arith,
       each,

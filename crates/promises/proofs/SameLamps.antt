@@ -1,5 +1,6 @@
 -- Two boxes given the same calls go on alike, whatever their tracks keep of a train.
-use Rattle.std.proofs.Common.{◌≡◌, ℕ, ◌-◌, Bool, true, false, ltb, List, [], ◌∷◌, length, Some, None, Option, sym, refl, ap, ◌∙◌, subst, inl, inr, arith}
+use Rattle.std.proofs.Common.{◌≡◌, ℕ, ◌-◌, Bool, true, false, ltb, List, [], ◌∷◌, length, Some, None, Option, sym}
+use Rattle.std.proofs.Common.{refl, ap, ◌∙◌, subst, inl, inr, arith}
 use Rattle.std.proofs.lemmas.List.{get_or-set_same, get_or-set_other, get_or_past, set_past}
 use Rattle.std.proofs.lemmas.Bool.{cases_eq, cases_lt, both_ways, le-leb, and_from, lt-ltb}
 use Rattle.rules.specs.Calls.{Call, ask_signal, verdict, effect, line_after, cells_told}
@@ -31,8 +32,8 @@ put_order : (cells : List Cell) (t s : ℕ) (cell : Cell) → cell.failed ≡ (c
 put_order cells t s cell same =
     elim (cases_eq (s - 1) (t - 1)) [
       | inl e ↦ elim (cases_lt (t - 1) (length cells)) [
-        | inl in_List ↦
-            rw e (ap (λ c. c.failed) (get_or-set_same cells (t - 1) cell new_cell in_List) ∙ same)
+        | inl in_list ↦
+            rw e (ap (λ c. c.failed) (get_or-set_same cells (t - 1) cell new_cell in_list) ∙ same)
         | inr past ↦ rw (set_past cells (t - 1) cell past)
       ]
       | inr other ↦ ap (λ c. c.failed) (get_or-set_other cells (t - 1) (s - 1) cell new_cell other)
@@ -63,9 +64,9 @@ both_order : (one two : List Cell) (t s : ℕ) (b : Bool) → length one ≡ len
 both_order one two t s b long alike =
     elim (cases_eq (s - 1) (t - 1)) [
       | inl e ↦ elim (cases_lt (t - 1) (length one)) [
-        | inl in_List ↦
+        | inl in_list ↦
             rw e
-            (ap (λ c. c.failed) (get_or-set_same one (t - 1) (with_failed (cell_of one t) b) new_cell in_List)
+            (ap (λ c. c.failed) (get_or-set_same one (t - 1) (with_failed (cell_of one t) b) new_cell in_list)
             ∙ sym (ap (λ c. c.failed)
             (get_or-set_same two (t - 1) (with_failed (cell_of two t) b) new_cell (omega arith))))
         | inr past ↦

@@ -1,24 +1,21 @@
 -- What always holds of a laid line, and of a bare one.
-use Rattle.std.proofs.Common.{◌≡◌, ℕ, zero, suc, ◌+◌, ◌-◌, ◌<◌, ◌≤◌, true, false, not, ◌&&◌, eqb, ◌⊎◌, [], length, None, sym, refl, ◌∙◌, add-zero, arith}
+use Rattle.std.proofs.Common.{◌≡◌, ℕ, zero, suc, ◌+◌, ◌-◌, ◌<◌, ◌≤◌, true, false, not, eqb, sym, refl, ◌∙◌, add-zero}
+use Rattle.std.proofs.Common.{arith}
 use Rattle.std.proofs.ByRecursion.{All-weaker}
 use Rattle.std.proofs.lemmas.Bool.{and_parts, eqb-true, eq-eqb, not-true}
-use Rattle.std.specs.List.{AllByRecursion as All}
-use Rattle.rules.specs.Calls.{reversed}
+use Rattle.std.specs.List.{AllByRecursion}
 use Rattle.rules.specs.Detection.{cell_of, legal_section}
-use Rattle.rules.specs.Lines.{Line, all_open, new_levers, bare, blocks, roads, laying_of, levers_at, sends, clear}
+use Rattle.rules.specs.Lines.{Line, blocks, roads, clear}
 use Rattle.rules.specs.Lines.{closed_at, state_at, section_of}
 use Rattle.rules.specs.TrackRuns.{Lawful}
-use Rattle.rules.specs.declared.line.Levers.{Levers}
-use Rattle.rules.specs.declared.line.Station.{Station}
-use Rattle.rules.specs.declared.line.Station.TheVariants.{EndA, EndB}
 use Rattle.rules.specs.declared.line.Train.{Train}
-use Rattle.promises.specs.Sound.{Agree, Fits, Limits, Sound, times, times_from, total}
+use Rattle.promises.specs.Sound.{Fits, Sound, times, times_from, total}
 use Rattle.promises.proofs.Totals.{Legal, nothing_held_none_stands}
 use Rattle.rules.proofs.TrackRuns.{vacant_holds_none}
 
 -- in a section that is clear no train stands
 module _ (mark : ℕ → ℕ) (lawful : Lawful mark) (line : Line) (sound : Sound mark line) where
-  pub all_legal : All Legal line.trains
+  pub all_legal : AllByRecursion Legal line.trains
   all_legal =
       All-weaker (Fits (blocks line) (roads line)) Legal (λ train fits. fits.axles) line.trains sound.fits
 

@@ -1,6 +1,7 @@
 -- The trains of a line in one section, all told: how many, and what they make it hold.
-use Rattle.std.proofs.Common.{◌≡◌, ℕ, zero, suc, ◌+◌, ◌*◌, ◌<◌, ◌≤◌, true, List, [], ◌∷◌, ◌++◌, length, get_or, take, drop, sum_by, sym, refl, ◌∙◌, suc-mul, one-mul, zero-mul, arith}
-use Rattle.std.specs.List.{AllByRecursion as All}
+use Rattle.std.proofs.Common.{◌≡◌, ℕ, zero, suc, ◌+◌, ◌*◌, ◌<◌, ◌≤◌, true, List, [], ◌∷◌, ◌++◌, length, get_or, take}
+use Rattle.std.proofs.Common.{drop, sum_by, sym, refl, ◌∙◌, suc-mul, one-mul, zero-mul, arith}
+use Rattle.std.specs.List.{AllByRecursion}
 use Rattle.std.proofs.lemmas.List.Sums.{sum_by-cons, sum_by-append, sum_by-take-drop, sum_by-drop_more}
 use Rattle.rules.specs.Detection.{legal_axles}
 use Rattle.rules.specs.TrackRuns.{Lawful}
@@ -25,7 +26,8 @@ weighs zero m low h = refl
 weighs (suc t) m low h = absurd (omega (arith, suc-mul t m))
 
 -- and where nothing is held, none stands
-pub nothing_held_none_stands : (mark : ℕ → ℕ) → Lawful mark → (n s : ℕ) (trains : List Train) → All Legal trains
+pub nothing_held_none_stands : (mark : ℕ → ℕ) → Lawful mark → (n s : ℕ) (trains : List Train)
+    → AllByRecursion Legal trains
     → load mark n s trains ≡ 0 → total n s trains ≡ 0
 nothing_held_none_stands mark lawful n s [] legal h = refl
 nothing_held_none_stands mark lawful n s (train ∷ trains) legal h =

@@ -1,9 +1,12 @@
 -- Putting on, withdrawing, advance and follow: the track takes what it is told, and what always holds goes on holding.
-use Rattle.std.proofs.Common.{◌≡◌, ℕ, ◌+◌, ◌-◌, ◌*◌, ◌<◌, ◌≤◌, true, false, cond, not, eqb, List, [], ◌∷◌, ◌++◌, length, get_or, take, drop, set, is_some, None, sum_by, unwrap_or, sym, refl, ap, ◌∙◌, inl, inr, add-zero, add-mul, arith}
+use Rattle.std.proofs.Common.{◌≡◌, ℕ, ◌+◌, ◌-◌, ◌*◌, ◌<◌, ◌≤◌, true, false, cond, not, eqb, List, [], ◌∷◌, ◌++◌}
+use Rattle.std.proofs.Common.{length, get_or, take, drop, set, is_some, None, sum_by, unwrap_or, sym, refl, ap, ◌∙◌}
+use Rattle.std.proofs.Common.{inl, inr, add-zero, add-mul, arith}
 use Rattle.std.proofs.ByRecursion.{All-get_or, All-set, All-push, All-append, All-take, All-drop}
 use Rattle.std.proofs.lemmas.List.Sums.{sum_by-set, sum_by_push}
-use Rattle.std.proofs.lemmas.Bool.{or_parts, cases_Bool, cases_lt, eqb-true, eqb-false, eq-eqb, ne_eqb, not-false, not-true}
-use Rattle.std.specs.List.{AllByRecursion as All}
+use Rattle.std.proofs.lemmas.Bool.{or_parts, cases_Bool, cases_lt, eqb-true, eqb-false, eq-eqb, ne_eqb, not-false}
+use Rattle.std.proofs.lemmas.Bool.{not-true}
+use Rattle.std.specs.List.{AllByRecursion}
 use Rattle.rules.specs.Calls.{withdraw, advance, follow, effect, train_index, train_of, no_train}
 use Rattle.rules.specs.Calls.{standing, front_moved, rear_moved, reversed, moved}
 use Rattle.rules.specs.Calls.{ended, at_stop}
@@ -12,7 +15,6 @@ use Rattle.rules.specs.Lines.{Line, blocks, roads, levers_at, clear, section_of,
 use Rattle.promises.specs.Promises.{LawfulLamps}
 use Rattle.rules.specs.Signals.{Shows, count_at, metres_at}
 use Rattle.rules.specs.Stations.{road_section, other_end}
-use Rattle.rules.specs.Table.{within}
 use Rattle.rules.specs.TrackRuns.{Lawful}
 use Rattle.rules.specs.declared.detection.TrackCall.{TrackCall}
 use Rattle.rules.specs.declared.detection.TrackCall.TheVariants.{Enter, Leave}
@@ -98,7 +100,8 @@ module _ (shows : Shows) (lamps : LawfulLamps shows) (mark : ℕ → ℕ) (lawfu
   at_index number = unwrap_or (train_index line number) 0
 
   -- a line with other trains and cells, and all else as it was
-  pub moved_on : (trains : List Train) (call : TrackCall) → All (Fits n (roads line)) trains → All (Away line) trains
+  pub moved_on : (trains : List Train) (call : TrackCall) → AllByRecursion (Fits n (roads line)) trains
+      → AllByRecursion (Away line) trains
       → Agree mark n trains line.closed (track_after mark line.cells call)
       → Sound mark (moved mark line trains call)
   moved_on trains call fits way agree = record {

@@ -1,5 +1,6 @@
 -- The movements worked through in the rules, as one list: what is done, and what comes of it.
 use Rattle.std.specs.Prelude.{◌≡◌, ℕ, ◌+◌, ◌-◌, Bool, true, false, cond, List, [], ◌∷◌, ◌++◌, map, replicate, ◌==◌}
+use Rattle.std.specs.Prelude.{take}
 use Rattle.std.specs.List.{range_with_len}
 use Rattle.rules.specs.Aspects.{lamp_set_shows, cab_shows}
 use Rattle.rules.specs.Calls.{Call, lay, direction, starter, home, put_on, withdraw, advance, follow, fail, mend}
@@ -21,20 +22,17 @@ use Rattle.rules.specs.declared.refusal.Refusal.TheVariants.{WrongWay, LeverOnLe
 use Rattle.rules.specs.declared.refusal.Refusal.TheVariants.{AtStop, RoadsEnd, NothingBehind, TrainAway, StrangeSlip}
 use Rattle.rules.specs.declared.refusal.Refusal.TheVariants.{SoAlready, ShortPanel}
 
--- One thing done: a call or question, a look at a byte of the panel, the cab signal asked for a count and metres, or
--- a look whether the train of a number holds a section.
+-- One thing done: a call or question, a look at a byte of the panel, or the cab signal asked for a count and metres.
 pub data Step : Type 0 where
   call : Call → Step
   byte : ℕ → Step
   cab : ℕ → ℕ → Step
-  held : ℕ → ℕ → Step
 
 -- What came of it.
 pub data Sight : Type 0 where
   answered : Answer → Sight
   shown : ℕ → Sight
   aspect : Aspect → Sight
-  whether : Bool → Sight
 
 -- Three lamps over track circuits, on a new line over a new track.
 abbrev pub three : Shows
@@ -47,13 +45,11 @@ abbrev sight : Line → Step → Sight
 sight line (call c) = answered (answer_to three line c)
 sight line (byte k) = shown (panel_byte three line k)
 sight line (cab r m) = aspect (cab_shows r m)
-sight line (held number s) = whether (holds (blocks line) (train_of line number) s)
 
 abbrev line_then : Line → Step → Line
 line_then line (call c) = line_after three circuit line c
 line_then line (byte k) = line
 line_then line (cab r m) = line
-line_then line (held number s) = line
 
 abbrev sights : Line → List Step → List Sight
 sights line [] = []
@@ -91,13 +87,11 @@ abbrev sight_with : Shows → Line → Step → Sight
 sight_with shows line (call c) = answered (answer_to shows line c)
 sight_with shows line (byte k) = shown (panel_byte shows line k)
 sight_with shows line (cab r m) = aspect (cab_shows r m)
-sight_with shows line (held number s) = whether (holds (blocks line) (train_of line number) s)
 
 abbrev line_then_with : Shows → Line → Step → Line
 line_then_with shows line (call c) = line_after shows circuit line c
 line_then_with shows line (byte k) = line
 line_then_with shows line (cab r m) = line
-line_then_with shows line (held number s) = line
 
 abbrev sights_with : Shows → Line → List Step → List Sight
 sights_with shows line [] = []
@@ -244,13 +238,6 @@ road_of s road = cond (s == 1) (16 + road) (20 + road)
 abbrev reads : ℕ → ℕ → Step × Sight
 reads s state = (byte (s - 1), shown state)
 
--- the train of a number holds a section, or does not
-abbrev holds_it : ℕ → ℕ → Step × Sight
-holds_it number s = (held number s, whether true)
-
-abbrev holds_not : ℕ → ℕ → Step × Sight
-holds_not number s = (held number s, whether false)
-
 -- A has one road, B three.
 abbrev unequal : ℕ → Step × Sight
 unequal n = ok (laid n 1 3 1)
@@ -351,17 +338,15 @@ its_own_starter s =
     sample_line ∷ ok (put_on 101 8 s 1) ∷ ok (put_on 102 8 s 2) ∷ ok (direction s true) ∷ no (advance 101) AtStop
     ∷ ok (starter s 2) ∷ no (advance 101) AtStop ∷ ok (advance 102) ∷ no (advance 101) AtStop ∷ []
 
--- A train over two blocks and both its roads: it holds every section from rear to front, and cannot be withdrawn.
+-- A train over two blocks and both its roads: every section from rear to front reads occupied, and it cannot be
+-- withdrawn.
 abbrev whole_length : ℕ → Movement
 whole_length s =
     ok (laid 2 2 2 1) ∷ ok (put_on 101 8 s 2) ∷ no (follow 101) NothingBehind ∷ no (advance 7) NoTrain
     ∷ no (follow 7) NoTrain ∷ ok (direction s true) ∷ ok (starter s 2) ∷ ok (advance 101) ∷ no (withdraw 101) TrainAway
     ∷ ok (advance 101) ∷ no (advance 101) AtStop ∷ ok (home (far s) 1) ∷ ok (advance 101)
     ∷ no (advance 101) RoadsEnd ∷ reads (road_of s 2) 1 ∷ reads 1 1 ∷ reads 2 1 ∷ reads (road_of (far s) 1) 1
-    ∷ holds_it 101 (road_of s 2) ∷ holds_it 101 1 ∷ holds_it 101 2 ∷ holds_it 101 (road_of (far s) 1)
-    ∷ holds_not 101 (road_of s 1) ∷ holds_not 101 (road_of (far s) 2)
     ∷ ok (follow 101) ∷ reads (road_of s 2) 0 ∷ reads (block_from 2 s 1) 1 ∷ no (withdraw 101) TrainAway
-    ∷ holds_not 101 (road_of s 2) ∷ holds_it 101 (block_from 2 s 1)
     ∷ ok (follow 101) ∷ reads (block_from 2 s 1) 0 ∷ reads (block_from 2 s 2) 1
     ∷ ok (follow 101) ∷ reads (block_from 2 s 2) 0 ∷ no (follow 101) NothingBehind ∷ reads (road_of (far s) 1) 1
     ∷ ok (withdraw 101) ∷ reads (road_of (far s) 1) 0 ∷ []
@@ -525,3 +510,31 @@ worked_everywhere = on plain worked ++ worked_in_boxes
 abbrev pub WorkedInBoxes : Type 0
 WorkedInBoxes =
     map (λ work. yields_in work.0 work.1) worked_in_boxes ≡ map (λ work. expected work.1) worked_in_boxes
+
+-- ## What a train holds on its way
+
+abbrev after_steps : Line → List Step → Line
+after_steps line [] = line
+after_steps line (step ∷ steps) = after_steps (line_then line step) steps
+
+-- whether train 101 holds each of some sections once so many steps of a movement are done
+abbrev held_once : Movement → ℕ → List ℕ → List Bool
+held_once movement steps sections =
+    let line = after_steps (new_line new_cells) (take steps (steps_of movement)) in
+    map (holds (blocks line) (train_of line 101)) sections
+
+-- with its front in the far road and its rear in its own; and after the first follow
+abbrev held_on_its_way : ℕ → List (List Bool)
+held_on_its_way s =
+    held_once (whole_length s) 14
+    (road_of s 2 ∷ 1 ∷ 2 ∷ road_of (far s) 1 ∷ road_of s 1 ∷ road_of (far s) 2 ∷ [])
+    ∷ held_once (whole_length s) 19 (road_of s 2 ∷ block_from 2 s 1 ∷ []) ∷ []
+
+abbrev held_from_rear_to_front : List (List Bool)
+held_from_rear_to_front =
+    (true ∷ true ∷ true ∷ true ∷ false ∷ false ∷ []) ∷ (false ∷ true ∷ []) ∷ []
+
+-- A train over two blocks and both its roads holds every section from rear to front, and no other road.
+abbrev pub HeldFromRearToFront : Type 0
+HeldFromRearToFront =
+    map held_on_its_way (1 ∷ 2 ∷ []) ≡ held_from_rear_to_front ∷ held_from_rear_to_front ∷ []

@@ -1,6 +1,7 @@
 -- What a line, its trains, its levers and its track always keep to together.
-use Rattle.std.specs.Prelude.{◌≡◌, ℕ, zero, suc, ◌+◌, ◌-◌, ◌*◌, ◌≤◌, Bool, true, false, cond, ◌&&◌, ◌⊎◌, List, [], length, None, sum_by, ◌==◌, slice_index_or}
-use Rattle.std.specs.List.{AllByRecursion as All}
+use Rattle.std.specs.Prelude.{◌≡◌, ℕ, zero, suc, ◌+◌, ◌-◌, ◌*◌, ◌≤◌, Bool, true, false, cond, ◌&&◌, ◌⊎◌, List, []}
+use Rattle.std.specs.Prelude.{length, None, sum_by, ◌==◌, slice_index_or}
+use Rattle.std.specs.List.{AllByRecursion}
 use Rattle.rules.specs.Calls.{reversed}
 use Rattle.rules.specs.Detection.{cell_of, legal_section, legal_axles}
 use Rattle.rules.specs.Lines.{Line, all_open, new_levers, bare, blocks, roads, laying_of, levers_at, sends, section_of}
@@ -82,9 +83,9 @@ pub record Sound (mark : ℕ → ℕ) (line : Line) : Type 0 where
   pub limits : Limits (blocks line) (roads line)
   pub reach_low : 1 ≤ (laying_of line).reach
   pub reach_high : (laying_of line).reach ≤ blocks line
-  pub fits : All (Fits (blocks line) (roads line)) line.trains
+  pub fits : AllByRecursion (Fits (blocks line) (roads line)) line.trains
   pub agree : Agree mark (blocks line) line.trains line.closed line.cells
-  pub way : All (Away line) line.trains
+  pub way : AllByRecursion (Away line) line.trains
   pub levers : (station : Station) → LeversRight (roads line station) (levers_at line station)
   pub one_way : (sends line EndA && sends line EndB) ≡ false
 

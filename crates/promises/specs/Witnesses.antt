@@ -1,6 +1,7 @@
 -- No promise is empty: calls that lead to what each promise speaks of, in both directions of travel, worked out by
 -- computation. Each stands for trains from station s, which is 1 or 2.
-use Rattle.std.specs.Prelude.{◌≡◌, ℕ, zero, suc, ◌+◌, ◌*◌, Bool, true, false, not, ◌&&◌, ◌||◌, List, [], ◌∷◌, ◌++◌, map, length, replicate, is_some, Some, None, Option, ◌==◌, nat_le}
+use Rattle.std.specs.Prelude.{◌≡◌, ℕ, zero, suc, ◌+◌, ◌*◌, Bool, true, false, not, ◌&&◌, ◌||◌, List, [], ◌∷◌, ◌++◌}
+use Rattle.std.specs.Prelude.{map, length, replicate, is_some, Some, None, Option, ◌==◌, nat_le}
 use Rattle.std.specs.List.{range_with_len, list_all}
 use Rattle.rules.specs.Aspects.{aspect_number}
 use Rattle.rules.specs.Calls.{Call, lay, direction, starter, home, put_on, withdraw, advance, follow, fail, mend}
@@ -18,7 +19,7 @@ use Rattle.rules.specs.declared.line.Station.TheVariants.{EndA, EndB}
 use Rattle.rules.specs.declared.line.Train.{Train}
 use Rattle.rules.specs.declared.refusal.Refusal.{Refusal}
 use Rattle.rules.specs.declared.refusal.Refusal.TheVariants.{ThereAlready, FarEndSends, LineNotClear}
-use Rattle.promises.specs.Movements.{Step, call, byte, cab, held, Sight, answered, shown, aspect, whether}
+use Rattle.promises.specs.Movements.{Step, call, byte, cab, Sight, answered, shown, aspect}
 use Rattle.promises.specs.Movements.{three, circuit, laid, far, block_from, worked_everywhere}
 use Rattle.promises.specs.Promises.{row_list, front_section, frame_at, frame_rows, train_at, holds_a_block}
 use Rattle.promises.specs.Promises.{all_carried_out, tells}
@@ -237,13 +238,11 @@ abbrev shows_row : ℕ → Sight → Bool
 shows_row row (answered answer) = row_answered answer == row
 shows_row row (shown value) = false
 shows_row row (aspect shown_aspect) = false
-shows_row row (whether held_so) = false
 
 abbrev of_kind : Call → Step → Bool
 of_kind c (call d) = kind c == kind d
 of_kind c (byte k) = false
 of_kind c (cab r m) = false
-of_kind c (held number s) = false
 
 abbrev row_met : Call → ℕ → Bool
 row_met c row =

@@ -1,5 +1,7 @@
 // The promises, each as the contract of a function. The functions do nothing: what they stand for is proved.
-ghost use Rattle.promises.specs.Movements.{WorkedThrough, WorkedInBoxes};
+#![tactic(auto)]
+
+ghost use Rattle.promises.specs.Movements.{WorkedThrough, WorkedInBoxes, HeldFromRearToFront};
 ghost use Rattle.promises.specs.Promises.{RowsAsListed, TurnedDownUntouched};
 ghost use Rattle.promises.specs.Promises.{NeverBothSend, ProceedFacesTheSender, DirectionLocked};
 ghost use Rattle.promises.specs.Promises.{Apart, FrontsComeIntoClear, NoSurprise, Room, LeverFrame};
@@ -11,9 +13,11 @@ pub fn movements_worked_through()
     ensures { WorkedThrough }
 {}
 
-// So they do of those that go row by row, from both stations and with other lamps.
+// So they do of those that go row by row, from both stations and with other lamps; and a train on its way holds what
+// it should.
 pub fn movements_row_by_row()
-    ensures { WorkedInBoxes }
+    ensures yielded { WorkedInBoxes }
+    ensures held { HeldFromRearToFront }
 {}
 
 // The rows that a call can meet are those that the table lists for it, from the top.

@@ -1,5 +1,6 @@
 -- Every section reads what an onlooker has seen of it: shown for one call, then over the list.
-use Rattle.std.proofs.Common.{◌≡◌, ℕ, ◌+◌, ◌-◌, ◌<◌, ◌≤◌, Bool, true, false, cond, not, eqb, ltb, leb, List, [], ◌∷◌, ◌++◌, length, is_some, Some, None, Option, refl, ◌∙◌, inl, inr, arith}
+use Rattle.std.proofs.Common.{◌≡◌, ℕ, ◌+◌, ◌-◌, ◌<◌, ◌≤◌, Bool, true, false, cond, not, eqb, ltb, leb, List, [], ◌∷◌}
+use Rattle.std.proofs.Common.{◌++◌, length, is_some, Some, None, Option, refl, ◌∙◌, inl, inr, arith}
 use Rattle.std.proofs.lemmas.List.{length-set, get_or-set_same, get_or-set_other, get_or-replicate}
 use Rattle.std.proofs.lemmas.Bool.{cases_Bool, and_parts, leb-true, ltb-false, eqb-true, eqb-false, not-false, lt-ltb}
 use Rattle.rules.specs.Table.{after}
@@ -8,7 +9,7 @@ use Rattle.rules.specs.Detection.{state_of, state_number, legal_section, legal_a
 use Rattle.rules.specs.Detection.{track_rows, track_verdict, track_effect, track_after}
 use Rattle.rules.specs.Detection.{as_answer, track_result, track_answer}
 use Rattle.rules.specs.TrackRuns.{run_after, transcript, Seen, nothing_seen, see}
-use Rattle.rules.specs.TrackRuns.{see_all, reading, Lawful, Goes_on}
+use Rattle.rules.specs.TrackRuns.{see_all, reading, Lawful, GoesOn}
 use Rattle.rules.specs.declared.detection.Cell.{Cell}
 use Rattle.rules.specs.declared.detection.SectionState.TheVariants.{Vacant, Occupied, OutOfOrder}
 use Rattle.rules.specs.declared.detection.TrackCall.{TrackCall}
@@ -185,7 +186,7 @@ one_more mark start (first ∷ calls) call = one_more mark (track_after mark sta
 
 -- one call more of a run
 pub run_on : (mark : ℕ → ℕ) → Lawful mark → (old new : List Cell) (call : TrackCall) → new ≡ track_after mark old call
-    → Goes_on mark old call new
+    → GoesOn mark old call new
 run_on mark lawful old new call now calls before =
     let all = calls ++ call ∷ [] in
     let reached : new ≡ run_after mark new_cells all = now ∙ rw before (one_more mark new_cells calls call) in

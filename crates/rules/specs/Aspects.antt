@@ -30,7 +30,8 @@ lamp_set_shows Five r =
 -- The cab signal goes by metres, as soon as a section is clear at all.
 abbrev pub cab_shows : ℕ → ℕ → Aspect
 cab_shows r m =
-    cond (r == 0) Stop (cond (nat_lt m 102) Restricted (cond (nat_lt m 212) Caution (cond (nat_lt m 452) Reduced Clear)))
+    cond (r == 0) Stop
+    (cond (nat_lt m 102) Restricted (cond (nat_lt m 212) Caution (cond (nat_lt m 452) Reduced Clear)))
 
 -- A longer clear way ahead never shows a lower aspect.
 abbrev pub NeverLower : (ℕ → ℕ → Aspect) → Type 0

@@ -1,5 +1,6 @@
 -- The meaning of a track, and what each of its calls answers and leaves.
-use Rattle.std.specs.Prelude.{◌≡◌, ℕ, ◌+◌, ◌-◌, Bool, true, false, cond, not, List, [], ◌∷◌, ◌++◌, replicate, Some, None, codes, decimal, Option, Result, ◌==◌, nat_lt, slice_index_or, slice_set}
+use Rattle.std.specs.Prelude.{◌≡◌, ℕ, ◌+◌, ◌-◌, Bool, true, false, cond, not, List, [], ◌∷◌, ◌++◌, replicate, Some}
+use Rattle.std.specs.Prelude.{None, codes, decimal, Option, Result, ◌==◌, nat_lt, slice_index_or, slice_set}
 use Rattle.rules.specs.Table.{Row, row_number, row_word, InTableOrder, topmost, answer, outcome, after, within}
 use Rattle.rules.specs.declared.refusal.Refusal.{Refusal}
 use Rattle.rules.specs.declared.refusal.Refusal.TheVariants.{NoSection, BadCard, NotClear, SoAlready, WrongMark}

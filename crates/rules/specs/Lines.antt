@@ -1,5 +1,6 @@
 -- The state of a line with its track: what the calls carried out have made of it.
-use Rattle.std.specs.Prelude.{ℕ, zero, suc, ◌+◌, ◌-◌, Bool, false, cond, not, ◌&&◌, ◌||◌, List, [], replicate, is_some, None, Option, ◌==◌, nat_le, slice_index_or}
+use Rattle.std.specs.Prelude.{ℕ, zero, suc, ◌+◌, ◌-◌, Bool, false, cond, not, ◌&&◌, ◌||◌, List, [], replicate}
+use Rattle.std.specs.Prelude.{is_some, None, Option, ◌==◌, nat_le, slice_index_or}
 use Rattle.std.specs.Option.{unwrap_or}
 use Rattle.rules.specs.Detection.{cell_of, state_of, state_number}
 use Rattle.rules.specs.Stations.{place_from, road_section, other_end}

@@ -1,5 +1,6 @@
 -- The turning-down table: each row's number and word, and which row answers a call.
-use Rattle.std.specs.Prelude.{◌≡◌, ℕ, Bool, true, cond, ◌&&◌, List, [], ◌∷◌, Some, None, Ok, Err, codes, Option, Result, nat_le, nat_lt}
+use Rattle.std.specs.Prelude.{◌≡◌, ℕ, Bool, true, cond, ◌&&◌, List, [], ◌∷◌, Some, None, Ok, Err, codes, Option}
+use Rattle.std.specs.Prelude.{Result, nat_le, nat_lt}
 use Rattle.rules.specs.declared.refusal.Refusal.{Refusal}
 use Rattle.rules.specs.declared.refusal.Refusal.TheVariants.{NotLaid, Laid, BadPlan, NoStation, NoSection}
 use Rattle.rules.specs.declared.refusal.Refusal.TheVariants.{NoRoad, BadCard, NumberInUse, NoTrain, ThereAlready}

@@ -1,5 +1,6 @@
 -- Whole runs of a track: any list of calls with its answers, and what a section then reads.
-use Rattle.std.specs.Prelude.{◌≡◌, ℕ, ◌≤◌, Bool, true, false, cond, ◌&&◌, List, [], ◌∷◌, ◌++◌, is_some, Some, None, Option, ◌==◌}
+use Rattle.std.specs.Prelude.{◌≡◌, ℕ, ◌≤◌, Bool, true, false, cond, ◌&&◌, List, [], ◌∷◌, ◌++◌, is_some, Some, None}
+use Rattle.std.specs.Prelude.{Option, ◌==◌}
 use Rattle.rules.specs.Detection.{new_cells, cell_of, state_of, legal_section, legal_axles, track_after, track_answer}
 use Rattle.rules.specs.declared.detection.Cell.{Cell}
 use Rattle.rules.specs.declared.detection.SectionState.{SectionState}
@@ -66,6 +67,6 @@ pub record Run (mark : ℕ → ℕ) (calls : List TrackCall) (cells : List Cell)
       → state_of (cell_of cells s) ≡ reading (see_all s nothing_seen (transcript mark new_cells calls))
 
 -- One call more: whatever calls came before, in whatever order, the run goes on.
-abbrev pub Goes_on : (ℕ → ℕ) → List Cell → TrackCall → List Cell → Type 0
-Goes_on mark old call new =
+abbrev pub GoesOn : (ℕ → ℕ) → List Cell → TrackCall → List Cell → Type 0
+GoesOn mark old call new =
     (calls : List TrackCall) → old ≡ run_after mark new_cells calls → Run mark (calls ++ call ∷ []) new

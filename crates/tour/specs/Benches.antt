@@ -2,7 +2,7 @@
 use Rattle.std.specs.Prelude.{◌≡◌, ℕ, List}
 use Rattle.rules.specs.Detection.{track_after}
 use Rattle.rules.specs.declared.detection.Cell.{Cell}
-use Rattle.rules.specs.TrackRuns.{Goes_on}
+use Rattle.rules.specs.TrackRuns.{GoesOn}
 use Rattle.rules.specs.declared.detection.TrackCall.{TrackCall}
 use Rattle.track.specs.Kinds as kinds
 use Rattle.tour.specs.declared.bench.Bench.{Bench}
@@ -24,5 +24,5 @@ counter_mark axles = axles
 pub record BothTold (old : Bench) (call : TrackCall) (new : Bench) : Type 0 where
   pub circuits : circuit_cells new ≡ track_after circuit_mark (circuit_cells old) call
   pub counter : counter_cells new ≡ track_after counter_mark (counter_cells old) call
-  pub circuits_go_on : Goes_on circuit_mark (circuit_cells old) call (circuit_cells new)
-  pub counter_goes_on : Goes_on counter_mark (counter_cells old) call (counter_cells new)
+  pub circuits_go_on : GoesOn circuit_mark (circuit_cells old) call (circuit_cells new)
+  pub counter_goes_on : GoesOn counter_mark (counter_cells old) call (counter_cells new)

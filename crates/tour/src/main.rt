@@ -1,4 +1,6 @@
 // A train's passage from A to B, told to both kinds of track, with what each lamp set shows behind it.
+#![tactic(auto)]
+
 ghost use Rattle.std.specs.Prelude.{◌≡◌};
 ghost use Rattle.rules.specs.Detection.{state_answer};
 ghost use Rattle.tour.specs.Drawing.{symbol_of, drawing};
@@ -26,7 +28,7 @@ fn symbol(state: SectionState) -> &'static str
 }
 
 fn drawn<T: Track>(track: &T, section: u32) -> &'static str
-    ensures { result.now ≡ drawing (state_answer mark (cells track.now) section) }
+    ensures { result.now ≡ drawing (state_answer T.mark (T.cells track.now) section) }
 {
     match track.state(section) {
         Ok(state) => symbol(state),

@@ -14,7 +14,7 @@ pub const BLOCKS: u32 = 3;
 const LENGTHS: [u32; 3] = [100, 150, 250];
 
 fn is_vacant<T: Track>(track: &T, section: u32) -> bool
-    ensures { result ≡ reads_vacant (cells track.now) section }
+    ensures { result ≡ reads_vacant (T.cells track.now) section }
 {
     match track.state(section) {
         Ok(SectionState::Vacant) => true,
@@ -24,7 +24,7 @@ fn is_vacant<T: Track>(track: &T, section: u32) -> bool
 
 // How many of so many sections, from section 1 on, read vacant one after the other.
 pub fn vacant_ahead<T: Track>(track: &T, sections: u32) -> u32
-    ensures { result ≡ vacant_from (cells track.now) 1 sections }
+    ensures { result ≡ vacant_from (T.cells track.now) 1 sections }
 {
     for passed in 0..sections {
         if !is_vacant(track, passed + 1) {

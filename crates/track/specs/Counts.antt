@@ -10,4 +10,5 @@ counted (Counting axles) = axles
 
 -- one section by the two tables, counts and out of order
 abbrev pub counter : List AxleCell → List Bool → ℕ → Cell
-counter counts failed place = record { held = counted (slice_index_or counts place Empty); failed = slice_index_or failed place false }
+counter counts failed place =
+    record { held = counted (slice_index_or counts place Empty); failed = slice_index_or failed place false }

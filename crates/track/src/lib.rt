@@ -1,4 +1,6 @@
 // Train detection: what any track does, and the two kinds that are delivered.
+#![tactic(auto)]
+
 ghost use Rattle.std.specs.Prelude.{◌≡◌, ℕ, ◌≤◌, true, List, length};
 ghost use Rattle.rules.specs.Detection.{Ends, legal_axles, state_answer};
 ghost use Rattle.rules.specs.declared.detection.Cell.{Cell};

@@ -1,7 +1,7 @@
 // One call of any track, as an enum in and an enum out.
 ghost use Rattle.std.specs.Prelude.{◌≡◌};
 ghost use Rattle.rules.specs.Detection.{track_answer, track_after};
-ghost use Rattle.rules.specs.TrackRuns.{Goes_on};
+ghost use Rattle.rules.specs.TrackRuns.{GoesOn};
 ghost use Rattle.track.specs.Answered.{answered_by};
 
 use crate::Track;
@@ -11,17 +11,17 @@ use rules::refusal::Refusal;
 // Tells the track. Of a track that was new, whatever calls came before and in whatever order: afterwards each section
 // reads what an onlooker to those calls and this one must think of it.
 pub fn tell<T: Track>(track: &mut T, call: TrackCall) -> TrackAnswer
-    ensures answer { result ≡ track_answer mark (cells track.old) call }
-    ensures after { cells track.new ≡ track_after mark (cells track.old) call }
-    ensures history { Goes_on mark (cells track.old) call (cells track.new) }
+    ensures answer { result ≡ track_answer T.mark (T.cells track.old) call }
+    ensures after { T.cells track.new ≡ track_after T.mark (T.cells track.old) call }
+    ensures history { GoesOn T.mark (T.cells track.old) call (T.cells track.new) }
 {
     pass_on(track, call)
 }
 
 // The same without the history, which would otherwise be owed once an arm.
 fn pass_on<T: Track>(track: &mut T, call: TrackCall) -> TrackAnswer
-    ensures answer { result ≡ track_answer mark (cells track.old) call }
-    ensures after { cells track.new ≡ track_after mark (cells track.old) call }
+    ensures answer { result ≡ track_answer T.mark (T.cells track.old) call }
+    ensures after { T.cells track.new ≡ track_after T.mark (T.cells track.old) call }
 {
     match call {
         TrackCall::State { section } => match track.state(section) {

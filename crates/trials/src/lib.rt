@@ -1,6 +1,8 @@
-// Examples for the tracks, the lamps and the lamp test. Each test is proved to be safe and to end, and then run.
+// Examples for the tracks, the lamps and the lamp test. Each test is proved to be safe, and then run.
+#![tactic(auto)]
+
 #[cfg(test)]
-mod lamps;
+mod lamp_sets;
 #[cfg(test)]
 mod panels;
 #[cfg(test)]

@@ -1,5 +1,5 @@
 // Lamp tests of panels of every telling length, ended in each of the four ways.
-ghost use Rattle.std.specs.Prelude.{cond, length, if_then_else_, Ok, Err, nat_eq, nat_lt, slice_index};
+ghost use Rattle.std.specs.Prelude.{cond, length, if◌then◌else◌, Ok, Err, nat_eq, nat_lt, slice_index};
 ghost use Rattle.panel.specs.declared.fitting.Fault.TheVariants.{DarkLamp};
 
 use panel::fitting::{Fault, Watcher, look_if_whole, look_lit_and_after, look_once, look_twice};

@@ -1,5 +1,6 @@
 // The trains that a line keeps: finding them, how they move, putting them back.
-ghost use Rattle.std.specs.Prelude.{◌≡◌, ◌+◌, ◌<◌, ◌≤◌, true, false, ◌&&◌, [], ◌∷◌, ◌++◌, length, take, drop, IfSome, IfOk, vec_len, ◌≢◌, nat_le, slice_index_or, slice_set};
+ghost use Rattle.std.specs.Prelude.{◌≡◌, ◌+◌, ◌<◌, ◌≤◌, true, false, ◌&&◌, [], ◌∷◌, ◌++◌, length, take, drop, IfSome};
+ghost use Rattle.std.specs.Prelude.{IfOk, vec_len, ◌≢◌, nat_le, slice_index_or, slice_set};
 ghost use Rattle.rules.specs.Calls.{train_index, no_train, front_moved, rear_moved, standing, withdraw, follow};
 ghost use Rattle.rules.specs.Calls.{verdict};
 ghost use Rattle.rules.specs.Lines.{bare, blocks, section_of};

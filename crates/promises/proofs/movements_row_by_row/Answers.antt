@@ -5,4 +5,4 @@ use Rattle.promises.proofs.movements_row_by_row.Goals as goal
 
 pub returns : goal.returns
 unfolding new_cells panel
-returns c = refl
+returns c = record { yielded = refl; held = refl }

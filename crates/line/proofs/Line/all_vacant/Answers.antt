@@ -4,15 +4,15 @@ use Rattle.line.specs.Worlds.{world}
 use Rattle.line.proofs.Vacant.{one_more_vacant, one_not_vacant}
 use Rattle.line.proofs.Line.all_vacant.Goals as goal
 
-pub returns-then-not-is-vacant : goal.returns-then-not-is-vacant
-returns-then-not-is-vacant g c =
+pub returns-then-not-is_vacant : goal.returns-then-not-is_vacant
+returns-then-not-is_vacant g c =
     sym (one_not_vacant (world g.T.Track.cells c.args.self.now) 24 c.loop-place.place (omega arith)
-    (sym c.if-not-is-vacant.ensures))
+    (sym c.if-not-is_vacant.ensures))
 
 pub loop-place-preserved : goal.loop-place-preserved
 loop-place-preserved g c =
     one_more_vacant (world g.T.Track.cells c.args.self.now) c.loop-place.place
-    (sym c.if-not-is-vacant.ensures) c.loop-place.invariant
+    (sym c.if-not-is_vacant.ensures) c.loop-place.invariant
 
 pub returns : goal.returns
 returns g c =

@@ -4,13 +4,18 @@ use Rattle.line.proofs.Histories.{ends_so}
 use Rattle.line.proofs.Exits.{turned_down, carried_out}
 use Rattle.line.proofs.Line.lay.Goals as goal
 
-pub returns-in-err-check-lay : goal.returns-in-err-check-lay
-returns-in-err-check-lay g c =
-    let p = err_from_is_err_and c.from-residual.result c.from-residual.ensures.1 in
-    rw (p.1, p.2) (record { ends = ends_so (g.met.L.Lamps.stops _) (g.met.L.Lamps.proceeds _) g.met.T.Track.marked (turned_down _ _ _ _ _ _ _ c.in-err-check-lay.ensures.row); lamps = refl })
+pub returns-in_err-check_lay : goal.returns-in_err-check_lay
+returns-in_err-check_lay g c =
+    let p = err_from_is_err_and c.from_residual.result c.from_residual.ensures.1 in
+    rw (p.1, p.2) (record {
+      ends = ends_so (g.met.L.Lamps.stops _) (g.met.L.Lamps.proceeds _) g.met.T.Track.marked
+          (turned_down _ _ _ _ _ _ _ c.in_err-check_lay.ensures.row);
+      lamps = refl;
+    })
 
 pub returns : goal.returns
 returns g c = record {
-  ends = ends_so (g.met.L.Lamps.stops _) (g.met.L.Lamps.proceeds _) g.met.T.Track.marked (carried_out _ _ _ _ _ _ _ _ c.in-ok-check-lay.ensures.row (λ _. c.lay.ensures _));
+  ends = ends_so (g.met.L.Lamps.stops _) (g.met.L.Lamps.proceeds _) g.met.T.Track.marked
+      (carried_out _ _ _ _ _ _ _ _ c.in_ok-check_lay.ensures.row (λ _. c.lay.ensures _));
   lamps = refl;
 }

@@ -1,4 +1,4 @@
-use Rattle.std.proofs.Common.{◌≡◌, is_err, refl, ap, ◌∙◌}
+use Rattle.std.proofs.Common.{is_err, refl, ap, ◌∙◌}
 use Rattle.rules.specs.Panels.{flag}
 use Rattle.line.proofs.Exits.{error_where_a_row}
 use Rattle.line.proofs.Line.lock_lamp.Goals as goal
@@ -6,5 +6,5 @@ use Rattle.line.proofs.Line.lock_lamp.Goals as goal
 pub returns : goal.returns
 returns g c =
     c.flag.ensures
-    ∙ ap flag (c.is-err.ensures.value ∙ ap is_err c.check-direction.ensures ∙ error_where_a_row _ _)
+    ∙ ap flag (c.is_err.ensures.value ∙ ap is_err c.check_direction.ensures ∙ error_where_a_row _ _)
     ∙ rw (c.from.ensures, c.number.ensures, c.levers-over.ensures.is) refl

@@ -1,4 +1,4 @@
-use Rattle.std.proofs.Common.{◌≡◌, ◌<◌, ◌≤◌, sym, ◌∙◌, arith}
+use Rattle.std.proofs.Common.{◌<◌, ◌≤◌, sym, ◌∙◌, arith}
 use Rattle.rules.specs.Lines.{blocks}
 use Rattle.line.specs.Worlds.{world}
 use Rattle.line.proofs.Metres.{metres_before_block, metres_before_home}
@@ -8,14 +8,14 @@ pub returns-then-distance-blocks : goal.returns-then-distance-blocks
 returns-then-distance-blocks g c =
     let line = world g.T.Track.cells c.args.self.now in
     let short : c.args.distance ≤ blocks line = omega (arith, c.blocks-2.ensures.is) in
-    c.block-metres.ensures
-    ∙ rw c.count-at-count.ensures.is (sym (metres_before_block line c.args.station c.args.distance short))
+    c.block_metres.ensures
+    ∙ rw c.count_at-count.ensures.is (sym (metres_before_block line c.args.station c.args.distance short))
 
 pub returns : goal.returns
 returns g c =
     let line = world g.T.Track.cells c.args.self.now in
     let far : blocks line < c.args.distance = omega (arith, c.blocks-2.ensures.is) in
-    c.road-metres.ensures
+    c.road_metres.ensures
     ∙ rw (c.levers.ensures.is, c.other-far.ensures)
     (sym (metres_before_home line c.args.station c.args.distance far
-    (λ none. c.if-home-count-eq0.false (c.home-count.ensures ∙ none))))
+    (λ none. c.if-home_count-eq0.false (c.home_count.ensures ∙ none))))

@@ -2,8 +2,8 @@ use Rattle.std.proofs.lemmas.Result.{err_from_is_err_and}
 use Rattle.line.proofs.Exits.{stopped, untouched}
 use Rattle.line.proofs.Line.paint.Goals as goal
 
-pub returns-in-err-check-paint : goal.returns-in-err-check-paint
-returns-in-err-check-paint g c =
-    let p = err_from_is_err_and c.from-residual.result c.from-residual.ensures.1 in
-    let row = c.in-err-check-paint.ensures.row in
+pub returns-in_err-check_paint : goal.returns-in_err-check_paint
+returns-in_err-check_paint g c =
+    let p = err_from_is_err_and c.from_residual.result c.from_residual.ensures.1 in
+    let row = c.in_err-check_paint.ensures.row in
     rw (p.1, p.2) (record { answer = row; painted = untouched _ _ _ _ (stopped _ _ _ row) })

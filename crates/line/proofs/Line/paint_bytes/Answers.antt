@@ -1,4 +1,4 @@
-use Rattle.std.proofs.Common.{◌≡◌, ℕ, ◌<◌, ◌++◌, map, length, drop, ap, ◌∙◌, subst, arith}
+use Rattle.std.proofs.Common.{◌≡◌, ℕ, ◌<◌, ◌++◌, map, length, drop, subst, arith}
 use Rattle.std.specs.List.{range_with_len}
 use Rattle.rules.specs.Panels.{panel, panel_byte}
 use Rattle.line.specs.Worlds.{world}

@@ -1,4 +1,4 @@
-use Rattle.std.proofs.Common.{◌≡◌, false, Some, sym, refl, ap, ◌∙◌}
+use Rattle.std.proofs.Common.{Some, sym, refl, ap, ◌∙◌}
 use Rattle.std.proofs.lemmas.Result.{err_from_is_err_and}
 use Rattle.rules.specs.Stations.{road_section}
 use Rattle.rules.specs.declared.detection.TrackCall.TheVariants.{Enter}
@@ -9,29 +9,35 @@ use Rattle.line.proofs.Histories.{ends_so}
 use Rattle.line.proofs.Exits.{passed, rules_turn_down, no_room_left, track_turns_down, track_takes}
 use Rattle.line.proofs.Line.put_on.Goals as goal
 
-pub returns-in-err-train : goal.returns-in-err-train
-returns-in-err-train g c =
-    let p = err_from_is_err_and c.from-residual.result c.from-residual.ensures.1 in
-    rw (p.1, p.2) (record { ends = ends_so (g.met.L.Lamps.stops _) (g.met.L.Lamps.proceeds _) g.met.T.Track.marked (rules_turn_down _ _ _ _ _ _ _ c.in-err-train.ensures.row); lamps = refl })
+pub returns-in_err-train : goal.returns-in_err-train
+returns-in_err-train g c =
+    let p = err_from_is_err_and c.from_residual.result c.from_residual.ensures.1 in
+    rw (p.1, p.2) (record {
+      ends = ends_so (g.met.L.Lamps.stops _) (g.met.L.Lamps.proceeds _) g.met.T.Track.marked
+          (rules_turn_down _ _ _ _ _ _ _ c.in_err-train.ensures.row);
+      lamps = refl;
+    })
 
-pub returns-then-is-full : goal.returns-then-is-full
-returns-then-is-full g c =
-    let met = passed _ _ _ c.in-ok-train.ensures.row in
+pub returns-then-is_full : goal.returns-then-is_full
+returns-then-is_full g c =
+    let met = passed _ _ _ c.in_ok-train.ensures.row in
     record {
-      ends = ends_so (g.met.L.Lamps.stops _) (g.met.L.Lamps.proceeds _) g.met.T.Track.marked (no_room_left _ _ _ _ _ _ met.0 (rw (sym c.if-is-full.ensures) refl));
+      ends = ends_so (g.met.L.Lamps.stops _) (g.met.L.Lamps.proceeds _) g.met.T.Track.marked
+          (no_room_left _ _ _ _ _ _ met.0 (rw (sym c.if-is_full.ensures) refl));
       lamps = refl;
     }
 
-pub road-section-requires : goal.road-section-requires
-road-section-requires g c = (placed _ c.in-ok-train.train c.in-ok-train.ensures.kept).road
+pub road_section-requires : goal.road_section-requires
+road_section-requires g c = (placed _ c.in_ok-train.train c.in_ok-train.ensures.kept).road
 
-pub returns-in-err-enter : goal.returns-in-err-enter
-returns-in-err-enter g c =
-    let p = err_from_is_err_and c.from-residual-in-err-enter.result c.from-residual-in-err-enter.ensures.1 in
-    let met = passed _ _ _ c.in-ok-train.ensures.row in
-    let told = c.in-err-enter.ensures in
+pub returns-in_err-enter : goal.returns-in_err-enter
+returns-in_err-enter g c =
+    let p = err_from_is_err_and c.from_residual-in_err-enter.result c.from_residual-in_err-enter.ensures.1 in
+    let met = passed _ _ _ c.in_ok-train.ensures.row in
+    let told = c.in_err-enter.ensures in
     rw (p.1, p.2) (record {
-      ends = ends_so (g.met.L.Lamps.stops _) (g.met.L.Lamps.proceeds _) g.met.T.Track.marked (track_turns_down _ _ _ _ _ _ met.0 (rw (sym c.if-is-full.ensures) refl)
+      ends = ends_so (g.met.L.Lamps.stops _) (g.met.L.Lamps.proceeds _) g.met.T.Track.marked
+          (track_turns_down _ _ _ _ _ _ met.0 (rw (sym c.if-is_full.ensures) refl)
           (ap (λ (train : Train). Some (Enter (road_section train.from train.road) train.axles)) (sym met.1))
           (λ cells. with_cells cells c.args.self.now.frame) _ _ refl
           (rw c.road_section.ensures at told.answer) (rw c.road_section.ensures at told.after));
@@ -40,12 +46,13 @@ returns-in-err-enter g c =
 
 pub returns : goal.returns
 returns g c =
-    let met = passed _ _ _ c.in-ok-train.ensures.row in
-    let told = c.in-ok-enter.ensures in
+    let met = passed _ _ _ c.in_ok-train.ensures.row in
+    let told = c.in_ok-enter.ensures in
     record {
-      ends = ends_so (g.met.L.Lamps.stops _) (g.met.L.Lamps.proceeds _) g.met.T.Track.marked (track_takes _ _ _ _ _ _ met.0 (rw (sym c.if-is-full.ensures) refl)
+      ends = ends_so (g.met.L.Lamps.stops _) (g.met.L.Lamps.proceeds _) g.met.T.Track.marked
+          (track_takes _ _ _ _ _ _ met.0 (rw (sym c.if-is_full.ensures) refl)
           (ap (λ (train : Train). Some (Enter (road_section train.from train.road) train.axles)) (sym met.1))
           _ (rw c.road_section.ensures at told.answer)
-          (c.push-train.ensures _ ∙ rw (told.after, c.road_section.ensures, met.1) refl));
+          (c.push_train.ensures _ ∙ rw (told.after, c.road_section.ensures, met.1) refl));
       lamps = refl;
     }

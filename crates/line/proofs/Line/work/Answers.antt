@@ -5,7 +5,7 @@ pub returns : goal.returns
 returns g c =
     let shown = c.args.self.now.lamps in
     let lawful = lamps_lawful (g.L.Lamps.shows shown) (g.met.L.Lamps.stops shown) (g.met.L.Lamps.proceeds shown) in
-    let ends = c.carry-out.ensures in
+    let ends = c.carry_out.ensures in
     record {
       answer = ends.answer;
       after = ends.after;

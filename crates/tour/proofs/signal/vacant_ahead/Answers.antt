@@ -25,9 +25,9 @@ pub loop-passed-preserved : goal.loop-passed-preserved
 unfolding rest
 loop-passed-preserved g c =
     one_more (g.T.Track.cells c.args.track.now) c.loop-passed.passed c.args.sections (omega arith)
-    c.loop-passed.invariant c.if-not-is-vacant.ensures
+    c.loop-passed.invariant c.if-not-is_vacant.ensures
 
-pub returns-then-not-is-vacant : goal.returns-then-not-is-vacant
-returns-then-not-is-vacant g c =
+pub returns-then-not-is_vacant : goal.returns-then-not-is_vacant
+returns-then-not-is_vacant g c =
     no_more (g.T.Track.cells c.args.track.now) c.loop-passed.passed c.args.sections (omega arith)
-    c.loop-passed.invariant c.if-not-is-vacant.ensures
+    c.loop-passed.invariant c.if-not-is_vacant.ensures

@@ -3,7 +3,7 @@ use Rattle.track.proofs.telling.tell.Goals as goal
 
 pub returns : goal.returns
 returns g c =
-    let ends = c.pass-on.ensures in
+    let ends = c.pass_on.ensures in
     record {
       answer = ends.answer;
       after = ends.after;

@@ -6,27 +6,27 @@ use Rattle.line.proofs.Kept.{every_part, few_sections, plan_parts}
 use Rattle.line.proofs.Metres.{metres_of_part}
 use Rattle.line.proofs.frame.Frame.block_metres.Goals as goal
 
-pub sum-metres-requires : goal.sum-metres-requires
-sum-metres-requires c =
+pub sum_metres-requires : goal.sum_metres-requires
+sum_metres-requires c =
     let line = trackless c.args.self.now in
-    let start = c.part-start-start.result in
+    let start = c.part_start-start.result in
     let plan = vec_items c.args.self.now.plan in
     let count = (start + c.args.count) - start in
     let all = (plan_parts line c.args.self.now.planned).1 in
     let few = (few_sections c.args.self.now.laying c.args.self.now.legal).0 in
     record {
-      kept = rw c.as-slice-plan.ensures.value
+      kept = rw c.as_slice-plan.ensures.value
           (every_part entry_kept count (drop start plan) (every_part entry_kept start plan all).1).0;
-      few = omega (arith, few, length-take count (drop start c.as-slice-plan.result.now));
+      few = omega (arith, few, length-take count (drop start c.as_slice-plan.result.now));
     }
 
 pub returns : goal.returns
 returns c =
     let line = trackless c.args.self.now in
-    let start = c.part-start-start.result in
+    let start = c.part_start-start.result in
     let count : (start + c.args.count) - start ≡ c.args.count = omega arith in
     let long = (plan_parts line c.args.self.now.planned).0 in
-    c.sum-metres.ensures
-    ∙ rw (count, c.as-slice-plan.ensures.value, c.part-start-start.ensures)
+    c.sum_metres.ensures
+    ∙ rw (count, c.as_slice-plan.ensures.value, c.part_start-start.ensures)
     (sym (metres_of_part line c.args.station c.args.distance c.args.count c.requires.low c.requires.high
     (omega (arith, long))))

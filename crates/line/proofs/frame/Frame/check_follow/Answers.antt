@@ -7,6 +7,6 @@ pub returns : goal.returns
 returns c = record {
   row = search rules;
   within = search rules;
-  kept = rw c.rear-moved.ensures
+  kept = rw c.rear_moved.ensures
       (rear_kept (trackless c.args.self.now) c.train-train.result c.train-train.ensures.kept c.if-train.false);
 }

@@ -1,4 +1,4 @@
-use Rattle.std.proofs.Common.{◌≡◌, get_or, vec_items, sym, ◌∙◌, arith}
+use Rattle.std.proofs.Common.{◌≡◌, get_or, vec_items, ◌∙◌, arith}
 use Rattle.std.proofs.lemmas.List.{get_or_default}
 use Rattle.rules.specs.Calls.{no_train}
 use Rattle.line.proofs.Kept.{train_kept_at}

@@ -7,5 +7,5 @@ pub returns : goal.returns
 returns c =
     let self = c.args.self.now in
     count_written self.counts self.out_of_order _ c.requires
-    _ c.args.axles (ap counted c.count-in.ensures)
+    _ c.args.axles (ap counted c.count_in.ensures)
     (search rules)

@@ -7,4 +7,4 @@ pub returns : goal.returns
 returns c =
     let self = c.args.self.now in
     count_written self.counts self.out_of_order _ c.requires
-    _ 0 (ap counted c.count-out.ensures) (search rules)
+    _ 0 (ap counted c.count_out.ensures) (search rules)
