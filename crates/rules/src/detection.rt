@@ -1,7 +1,7 @@
 // What a track is told and what it answers.
 ghost use Rattle.std.specs.Prelude.{◌≡◌, Some};
 ghost use Rattle.rules.specs.Detection.{state_number, state_word, state_of, TrackRowsInTableOrder};
-ghost use Rattle.rules.specs.Detection.{answer_number, answer_value, answer_text};
+ghost use Rattle.rules.specs.Detection.{answer_number, answer_value, answer_text, done_or, reads_or};
 
 use crate::refusal::Refusal;
 use std::fmt;
@@ -102,6 +102,30 @@ impl TrackAnswer {
             TrackAnswer::Reads(state) => Some(state.number()),
             TrackAnswer::Done => None,
             TrackAnswer::TurnedDown(refusal) => Some(refusal.row()),
+        }
+    }
+}
+
+// A call that has nothing to tell.
+impl From<Result<(), Refusal>> for TrackAnswer {
+    ghost from_gives = { λ res answer. answer ≡ done_or res };
+
+    fn from(res: Result<(), Refusal>) -> Self {
+        match res {
+            Ok(()) => TrackAnswer::Done,
+            Err(refusal) => TrackAnswer::TurnedDown(refusal),
+        }
+    }
+}
+
+// A section asked for its state.
+impl From<Result<SectionState, Refusal>> for TrackAnswer {
+    ghost from_gives = { λ res answer. answer ≡ reads_or res };
+
+    fn from(res: Result<SectionState, Refusal>) -> Self {
+        match res {
+            Ok(state) => TrackAnswer::Reads(state),
+            Err(refusal) => TrackAnswer::TurnedDown(refusal),
         }
     }
 }

@@ -1,9 +1,12 @@
 // What a line is made of: stations, plan, levers, trains.
 ghost use Rattle.std.specs.Prelude.{◌≡◌};
+ghost use Rattle.rules.specs.Calls.{station_called};
 ghost use Rattle.rules.specs.Stations.{station_number, other_end};
 
+use crate::refusal::Refusal;
+
 // One end of the line: station A, number 1, or station B, number 2.
-#[derive(Clone, Copy)]
+#[derive(Clone, Copy, PartialEq, Eq, Debug)]
 pub enum Station {
     EndA = 1,
     EndB = 2,
@@ -26,15 +29,30 @@ impl Station {
     }
 }
 
+// The station of a number, if there is one.
+impl TryFrom<u32> for Station {
+    type Error = Refusal;
+
+    ghost try_from_gives = { λ number found. found ≡ station_called number };
+
+    fn try_from(number: u32) -> Result<Self, Refusal> {
+        match number {
+            1 => Ok(Station::EndA),
+            2 => Ok(Station::EndB),
+            _ => Err(Refusal::NoStation),
+        }
+    }
+}
+
 // One section in use: its name, and how long it is.
-#[derive(Clone, Copy)]
+#[derive(Clone, Copy, PartialEq, Eq, Debug)]
 pub struct PlanEntry {
     pub name: u32,
     pub metres: u32,
 }
 
 // The numbers that a line is laid with, besides its plan.
-#[derive(Clone, Copy)]
+#[derive(Clone, Copy, PartialEq, Eq, Debug)]
 pub struct Laying {
     pub number: u32,
     pub blocks: u32,
@@ -45,7 +63,7 @@ pub struct Laying {
 }
 
 // The levers of one station. A starter or home is 0 where normal, otherwise the road it is reversed for.
-#[derive(Clone, Copy)]
+#[derive(Clone, Copy, PartialEq, Eq, Debug)]
 pub struct Levers {
     pub sends: bool,
     pub starter: u32,
@@ -54,7 +72,7 @@ pub struct Levers {
 
 // A train: its card, and where it is. Rear and front are counted in places from the station that it leaves: 0 there,
 // then the blocks in its order of travel, then one more for its far station.
-#[derive(Clone, Copy)]
+#[derive(Clone, Copy, PartialEq, Eq, Debug)]
 pub struct Train {
     pub number: u32,
     pub axles: u32,
