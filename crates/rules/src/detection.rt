@@ -72,7 +72,8 @@ pub enum TrackCall {
     Mend { section: u32 },
 }
 
-// What a track answers to a call.
+// What a track answers to a call. One enum and not a Result: what is answered has a number, a value and words, and so
+// has the row that turns a call down.
 #[derive(Clone, Copy, PartialEq, Eq, Debug)]
 pub enum TrackAnswer {
     // The state that was asked for.

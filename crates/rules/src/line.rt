@@ -62,7 +62,8 @@ pub struct Laying {
     pub reach: u32,
 }
 
-// The levers of one station. A starter or home is 0 where normal, otherwise the road it is reversed for.
+// The levers of one station. A starter or home is 0 where normal, otherwise the road it is reversed for. These are the
+// numbers that a lever call brings and a panel shows; of an Option, Some(0) would have to be ruled out besides.
 #[derive(Clone, Copy, PartialEq, Eq, Debug)]
 pub struct Levers {
     pub sends: bool,
@@ -81,6 +82,6 @@ pub struct Train {
     pub road: u32,
     pub rear: u32,
     pub front: u32,
-    // Its road in the far station once its front is there, otherwise 0.
+    // Its road in the far station once its front is there, otherwise 0: what the home there is reversed for.
     pub into: u32,
 }
