@@ -112,10 +112,7 @@ impl From<Result<(), Refusal>> for TrackAnswer {
     ghost from_gives = { λ res answer. answer ≡ done_or res };
 
     fn from(res: Result<(), Refusal>) -> Self {
-        match res {
-            Ok(()) => TrackAnswer::Done,
-            Err(refusal) => TrackAnswer::TurnedDown(refusal),
-        }
+        res.map_or_else(TrackAnswer::TurnedDown, |()| TrackAnswer::Done)
     }
 }
 
@@ -124,10 +121,7 @@ impl From<Result<SectionState, Refusal>> for TrackAnswer {
     ghost from_gives = { λ res answer. answer ≡ reads_or res };
 
     fn from(res: Result<SectionState, Refusal>) -> Self {
-        match res {
-            Ok(state) => TrackAnswer::Reads(state),
-            Err(refusal) => TrackAnswer::TurnedDown(refusal),
-        }
+        res.map_or_else(TrackAnswer::TurnedDown, TrackAnswer::Reads)
     }
 }
 
