@@ -1,5 +1,5 @@
 // The signal that guards block 1: what is clear ahead of it, and what its lamps show.
-ghost use Rattle.std.specs.Prelude.{◌≡◌};
+ghost use Rattle.std.specs.Prelude.{◌≡◌, ◌^◌, ◌<◌, sum};
 ghost use Rattle.tour.specs.Ahead.{vacant_from, metres_of, heads_show};
 
 use lamps::{CabSignal, Lamps};
@@ -21,11 +21,20 @@ pub fn vacant_ahead<T: Track>(track: &T, sections: u32) -> u32
         .unwrap_or(sections)
 }
 
+// Their sum, where it fits.
+fn total(metres: &[u32]) -> u32
+    requires { sum metres.now < 2 ^ 32 }
+    ensures { result ≡ sum metres.now }
+{
+    metres.iter().sum()
+}
+
 // The metres of so many blocks from block 1 on.
+#[tactic(auto, using(crate::proofs::Metres::part_short))]
 pub fn metres_ahead(clear: u32) -> u32
     ensures { result ≡ metres_of clear }
 {
-    LENGTHS[..clear.min(BLOCKS) as usize].iter().sum()
+    total(&LENGTHS[..clear.min(BLOCKS) as usize])
 }
 
 // What a head of two, three, four and five lamps and the cab signal show.

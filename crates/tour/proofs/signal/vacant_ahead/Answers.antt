@@ -26,19 +26,26 @@ ends_at cells at (suc n) end low high before here =
           ))
     ]
 
-ends_found : (cells : List Cell) (n : ℕ) (found : Option ℕ)
-    → MatchOption found ((k : ℕ) → 0 ≤ k → k < n → reads_vacant cells (k + 1) ≡ true)
-    (λ i. (0 ≤ i) × (i < n) × (reads_vacant cells (i + 1) ≡ false)
-    × ((k : ℕ) → 0 ≤ k → k < i → reads_vacant cells (k + 1) ≡ true))
+-- what a search of the range answers, where the range begins at 0
+ends_found : (cells : List Cell) (low n : ℕ) (found : Option ℕ) → low ≡ 0
+    → MatchOption found ((k : ℕ) → low ≤ k → k < n → reads_vacant cells (k + 1) ≡ true)
+    (λ i. (low ≤ i) × (i < n) × (reads_vacant cells (i + 1) ≡ false)
+    × ((k : ℕ) → low ≤ k → k < i → reads_vacant cells (k + 1) ≡ true))
     → unwrap_or found n ≡ vacant_from cells 1 n
-ends_found cells n None all = omega (arith, ends_at cells 0 n n (omega arith) (omega arith) all (λ u. absurd (omega arith)))
-ends_found cells n (Some i) h =
-    omega (arith, ends_at cells 0 n i (omega arith) (omega (arith, h.1)) h.3 (λ u. h.2))
+ends_found cells low n None start all =
+    omega (
+      arith,
+      ends_at cells 0 n n (omega arith) (omega arith) (λ k l u. all k (omega arith) u)
+          (λ u. absurd (omega arith)),
+    )
+ends_found cells low n (Some i) start h =
+    omega (arith, ends_at cells 0 n i (omega arith) (omega (arith, h.1)) (λ k l u. h.3 k (omega arith) u) (λ u. h.2))
 
 pub returns : goal.returns
 returns g c =
     let cells = g.T.Track.cells c.args.track.now in
     c.unwrap_or.ensures
-    ∙ ends_found cells c.args.sections c.find.result
+    ∙ ends_found cells _ c.args.sections c.find.result (omega arith)
     (first_from_Range _ _ _ c.find.result (λ k. reads_vacant cells (k + 1) ≡ false)
-    (λ k. reads_vacant cells (k + 1) ≡ true) c.find.ensures.ran (λ x q called. search rules) (λ x q called. search rules))
+    (λ k. reads_vacant cells (k + 1) ≡ true) c.find.ensures.ran (λ x q called. search rules)
+    (λ x q called. search rules))
