@@ -15,7 +15,8 @@ abbrev pub other_bits : ℕ → ℕ
 other_bits place = 4294967295 - one_bit place
 
 -- a bit put at one place, where no other changes
-written : (w p b new : ℕ) → bit_at new p ≡ b → ((k : ℕ) → k < 24 → (k ≡ p → ⊥) → bit_at new k ≡ bit_at w k) → Written w p b new
+written : (w p b new : ℕ) → bit_at new p ≡ b → ((k : ℕ) → k < 24 → (k ≡ p → ⊥) → bit_at new k ≡ bit_at w k)
+    → Written w p b new
 written w p b new there elsewhere k h =
     elim (cases_eq k p) [
       | inl e ↦ rw e (there ∙ sym (cond-true (eqb p p) b (bit_at w p) (eq-eqb p p refl)))
