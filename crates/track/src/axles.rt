@@ -14,6 +14,7 @@ use rules::detection::Cell;
 
 const CELLS: usize = 24;
 
+// One cell of the counter, lent and changed by itself. No Option: the rules speak of it as empty or counting.
 #[derive(Clone, Copy)]
 pub(crate) enum AxleCell {
     Empty,
@@ -43,7 +44,7 @@ impl AxleCell {
     }
 }
 
-// A table of such cells is a form of the project; which sections are out of order stands beside it.
+// A table of 24 cells, as the rules have it, and beside it which sections are out of order.
 #[derive(Drop)]
 pub struct AxleCounter {
     counts: [AxleCell; CELLS],
