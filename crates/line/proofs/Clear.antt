@@ -1,28 +1,45 @@
 -- The run of clear blocks ahead of a signal, block by block.
-use Rattle.std.proofs.Common.{◌≡◌, ℕ, zero, suc, ◌+◌, ◌-◌, ◌<◌, ◌≤◌, true, false, cond, eqb, refl, inl, inr, arith}
-use Rattle.std.proofs.lemmas.Bool.{cases_Bool, cases_eq, both_ways, and_parts, and_from, eq-eqb, ne_eqb}
+use Rattle.std.proofs.Common.{◌≡◌, ℕ, zero, suc, ◌+◌, ◌-◌, ◌<◌, ◌≤◌, true, false, not, eqb, sym, refl, inl, inr, arith}
+use Rattle.std.proofs.lemmas.Bool.{cases_Bool, cases_eq, both_ways, and_parts, and_from, eq-eqb, ne_eqb, not-true, not-false, cases_lt}
 use Rattle.rules.specs.Calls.{all_clear}
 use Rattle.rules.specs.Lines.{Line, blocks, clear}
-use Rattle.rules.specs.Signals.{clear_run}
+use Rattle.rules.specs.Signals.{clear_run, run_ahead}
 use Rattle.rules.specs.Stations.{place_from}
 use Rattle.rules.specs.declared.line.Station.{Station}
 use Rattle.rules.specs.declared.line.Station.TheVariants.{EndA}
+use Rattle.line.proofs.Ranges.{FirstPassing, EachBetween}
 
--- the run from a distance on: what is counted so far, and what is left to be asked
-module _ (line : Line) (station : Station) (from at run all : ℕ) (left : all - at ≡ suc (all - (at + 1)))
-    (counted : clear_run line station from (all - from) ≡ run + clear_run line station at (all - at)) where
-  asked : clear_run line station from (all - from)
-      ≡ run + cond (clear line (place_from (blocks line) station at))
-      (1 + clear_run line station (at + 1) (all - (at + 1))) 0
-  asked = rw left at counted
+-- the run from a distance on is as long as the first block that is not clear says
+run_up_to : (line : Line) (station : Station) (d n first : ℕ) → d ≤ first → first ≤ d + n
+    → EachBetween d first (λ k. not (clear line (place_from (blocks line) station k)) ≡ false)
+    → (first < d + n → not (clear line (place_from (blocks line) station first)) ≡ true)
+    → clear_run line station d n ≡ first - d
+run_up_to line station d zero first low high before here = omega arith
+run_up_to line station d (suc n) first low high before here =
+    elim (cases_eq first d) [
+      | inl e ↦ rw (not-true _ (rw e at (here (omega arith)))) (omega arith)
+      | inr on ↦
+          rw (not-false _ (before d (omega arith) (omega arith)))
+          (omega (
+            arith,
+            run_up_to line station (d + 1) n first (omega arith) (omega arith) (λ k l u. before k (omega arith) u)
+                (λ lt. here (omega arith)),
+          ))
+    ]
 
-  pub one_more : clear line (place_from (blocks line) station at) ≡ true
-      → clear_run line station from (all - from) ≡ (run + 1) + clear_run line station (at + 1) (all - (at + 1))
-  one_more h = omega (arith, rw h at asked)
-
-  pub no_more : clear line (place_from (blocks line) station at) ≡ false
-      → run ≡ clear_run line station from (all - from)
-  no_more h = omega (arith, rw h at asked)
+pub first_not_clear : (line : Line) (station : Station) (d first : ℕ)
+    → FirstPassing first d (blocks line + 1) (λ k. not (clear line (place_from (blocks line) station k)))
+    → first - d ≡ run_ahead line station d
+first_not_clear line station d first found =
+    elim (cases_lt (blocks line + 1) d) [
+      | inl beyond ↦
+          let none : (blocks line + 1) - d ≡ 0 = omega arith in
+          rw none (omega (arith, found.below))
+      | inr within ↦
+          let all : d + ((blocks line + 1) - d) ≡ blocks line + 1 = omega arith in
+          sym (run_up_to line station d ((blocks line + 1) - d) first (found.above within) (rw all found.below)
+          found.before (rw all found.here))
+    ]
 
 pub run_short : (line : Line) (station : Station) (d n : ℕ) → clear_run line station d n ≤ n
 run_short line station d zero = omega arith

@@ -1,3 +1,4 @@
+mod Ranges
 mod Searching
 mod Asking
 mod Exits

@@ -1,8 +1,7 @@
 // A new line, and laying it.
-ghost use Rattle.std.specs.Prelude.{◌≡◌, true, IfOk, IfErr, OnOk, ◌==◌};
+ghost use Rattle.std.specs.Prelude.{◌≡◌, true, IfOk, IfErr, OnOk};
 ghost use Rattle.rules.specs.Calls.{lay, verdict, all_vacant, legal_laying, legal_plan, ask_name};
-ghost use Rattle.rules.specs.Detection.{legal_section};
-ghost use Rattle.rules.specs.Lines.{new_line, bare, state_at};
+ghost use Rattle.rules.specs.Lines.{new_line, bare};
 ghost use Rattle.rules.specs.Table.{answer};
 ghost use Rattle.line.specs.Asked.{section_named};
 ghost use Rattle.line.specs.Exact.{Ends};
@@ -12,7 +11,7 @@ use crate::Line;
 use crate::frame::Frame;
 use crate::frame::plan::{legal_laying, legal_plan};
 use lamps::Lamps;
-use rules::detection::{LAST_SECTION, SectionState};
+use rules::detection::LAST_SECTION;
 use rules::line::{Laying, PlanEntry, Train};
 use rules::refusal::Refusal;
 use std::alloc::Global;
@@ -74,26 +73,11 @@ impl<T: Track, L: Lamps> Line<T, L> {
         Ok(())
     }
 
-    fn is_vacant(&self, section: u32) -> bool
-        requires { legal_section section ≡ true }
-        ensures { result ≡ (state_at (world T.cells self.now) section == 0) }
-    {
-        match self.track.state(section) {
-            Ok(SectionState::Vacant) => true,
-            _ => false,
-        }
-    }
-
     // All 24 sections of the track, in use or not.
     fn all_vacant(&self) -> bool
         ensures { result ≡ all_vacant (world T.cells self.now) 24 }
     {
-        for place in 0..LAST_SECTION {
-            if !self.is_vacant(place + 1) {
-                return false;
-            }
-        }
-        true
+        (1..=LAST_SECTION).all(|section| self.is_vacant(section))
     }
 
     // The section that bears a name in the plan.

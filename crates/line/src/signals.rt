@@ -1,10 +1,11 @@
 // What a signal has ahead of it, and what it shows. The trains are never asked.
-ghost use Rattle.std.specs.Prelude.{◌≡◌, ◌+◌, ◌-◌, ◌≤◌, true};
+ghost use Rattle.std.specs.Prelude.{◌≡◌, ◌+◌, ◌-◌, ◌≤◌, true, ◌==◌};
 ghost use Rattle.rules.specs.Calls.{all_clear, ask_signal, verdict};
 ghost use Rattle.rules.specs.Detection.{legal_section};
-ghost use Rattle.rules.specs.Lines.{clear, blocks};
+ghost use Rattle.rules.specs.Lines.{clear, blocks, state_at};
 ghost use Rattle.rules.specs.Signals.{run_ahead, starter_count, block_count, home_count};
 ghost use Rattle.rules.specs.Signals.{count_at, metres_at, aspect_at};
+ghost use Rattle.rules.specs.Stations.{place_from};
 ghost use Rattle.rules.specs.Table.{answer};
 ghost use Rattle.line.specs.Asked.{signal_shown};
 ghost use Rattle.line.specs.Worlds.{world};
@@ -31,32 +32,43 @@ impl<T: Track, L: Lamps> Line<T, L> {
         Ok((aspect, count))
     }
 
+    // The track reads vacant.
+    pub(crate) fn is_vacant(&self, section: u32) -> bool
+        requires { legal_section section ≡ true }
+        ensures { result ≡ (state_at (world T.cells self.now) section == 0) }
+    {
+        matches!(self.track.state(section), Ok(SectionState::Vacant))
+    }
+
     // Vacant, and no slip out on it.
     pub(crate) fn is_clear(&self, section: u32) -> bool
         requires { legal_section section ≡ true }
         ensures { result ≡ clear (world T.cells self.now) section }
     {
-        match self.track.state(section) {
-            Ok(SectionState::Vacant) => !self.frame.closed_at(section),
-            _ => false,
-        }
+        self.is_vacant(section) && !self.frame.closed_at(section)
     }
 
-    // How many blocks are clear one after the other, from a distance on.
+    // The block so many places on from a station is clear.
+    fn is_clear_ahead(&self, station: Station, distance: u32) -> bool
+        requires low { 1 ≤ distance }
+        requires high { distance ≤ blocks (world T.cells self.now) }
+        ensures { result ≡ clear (world T.cells self.now)
+            (place_from (blocks (world T.cells self.now)) station distance) }
+    {
+        self.is_clear(place_from(self.frame.blocks(), station, distance))
+    }
+
+    // How many blocks are clear one after the other, from a distance on: none beyond the last block.
     fn run_ahead(&self, station: Station, distance: u32) -> u32
         requires { 1 ≤ distance }
         ensures is { result ≡ run_ahead (world T.cells self.now) station distance }
         ensures within { result ≤ (blocks (world T.cells self.now) + 1) - distance }
     {
-        let blocks = self.frame.blocks();
-        let mut run = 0;
-        for at in distance..blocks + 1 {
-            if !self.is_clear(place_from(blocks, station, at)) {
-                return run;
-            }
-            run += 1;
-        }
-        run
+        let end = self.frame.blocks() + 1;
+        (distance..end)
+            .find(|&at| !self.is_clear_ahead(station, at))
+            .unwrap_or(end)
+            .saturating_sub(distance)
     }
 
     // Every block is clear where the run from one end is as long as the line.
@@ -91,21 +103,16 @@ impl<T: Track, L: Lamps> Line<T, L> {
         }
     }
 
+    // One section, the road that the home is reversed for, or none.
     fn home_count(&self, station: Station) -> u32
         ensures { result ≡ home_count (world T.cells self.now) station }
     {
-        let home = self.frame.levers(station.other()).home;
-        if !self.frame.levers(station).sends {
-            return 0;
-        }
-        if home == 0 {
-            return 0;
-        }
-        if self.is_clear(road_section(station.other(), home)) {
-            1
-        } else {
-            0
-        }
+        let far = station.other();
+        let home = self.frame.levers(far).home;
+        let cleared = self.frame.levers(station).sends
+            && home != 0
+            && self.is_clear(road_section(far, home));
+        u32::from(cleared)
     }
 
     // The clear sections ahead of the signal at a distance.

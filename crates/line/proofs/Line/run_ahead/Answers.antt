@@ -1,54 +1,23 @@
-use Rattle.std.proofs.Common.{◌≡◌, ◌+◌, ◌-◌, sym, arith}
-use Rattle.rules.specs.Signals.{clear_run}
+use Rattle.std.proofs.Common.{◌≡◌, ◌+◌, ◌-◌, not, rules, ◌∙◌, arith}
+use Rattle.rules.specs.Lines.{blocks, clear}
+use Rattle.rules.specs.Signals.{run_ahead}
+use Rattle.rules.specs.Stations.{place_from}
 use Rattle.line.specs.Worlds.{world}
-use Rattle.line.proofs.Clear.{one_more, no_more, run_short}
+use Rattle.line.proofs.Clear.{first_not_clear, run_short}
+use Rattle.line.proofs.Ranges.{first_passing}
 use Rattle.line.proofs.Line.run_ahead.Goals as goal
-
-pub returns-then-not-is_clear : goal.returns-then-not-is_clear
-returns-then-not-is_clear g c =
-    let line = world g.T.Track.cells c.args.self.now in
-    let same = c.blocks-blocks.ensures.is in
-    let dark = sym c.if-not-is_clear.ensures in
-    let run = no_more line c.args.station c.args.distance c.loop-at.at c.loop-at.run
-    (c.blocks-blocks.result + 1) (omega arith) c.loop-at.invariant.1
-    (rw (sym same, sym c.place_from.ensures) dark) in
-    record {
-      is = rw (sym same) run;
-      within = omega (
-        arith,
-        run,
-        same,
-        run_short line c.args.station c.args.distance
-            ((c.blocks-blocks.result + 1) - c.args.distance),
-      );
-    }
-
-pub loop-at-preserved : goal.loop-at-preserved
-loop-at-preserved g c =
-    let line = world g.T.Track.cells c.args.self.now in
-    let same = c.blocks-blocks.ensures.is in
-    let bright = sym c.if-not-is_clear.ensures in (
-      omega arith,
-      one_more line c.args.station c.args.distance c.loop-at.at c.loop-at.run
-          (c.blocks-blocks.result + 1) (omega arith) c.loop-at.invariant.1
-          (rw (sym same, sym c.place_from.ensures) bright),
-    )
 
 pub returns : goal.returns
 returns g c =
-    let line = world g.T.Track.cells c.args.self.now in
-    let same = c.blocks-blocks.ensures.is in
-    let none : (c.blocks-blocks.result + 1) - c.loop-at.at ≡ 0 = omega arith in
-    let run : c.loop-at.run
-    ≡ clear_run line c.args.station c.args.distance ((c.blocks-blocks.result + 1) - c.args.distance) =
-    omega (arith, rw none at c.loop-at.invariant.1) in
+    let a = c.args in
+    let line = world g.T.Track.cells a.self.now in
+    let found = first_passing c.find.result (λ k. not (clear line (place_from (blocks line) a.station k)))
+    (λ k told after called. search rules) c.find.ensures.runs in
+    let run : c.saturating_sub.result ≡ run_ahead line a.station a.distance =
+    c.saturating_sub.ensures
+    ∙ rw (c.unwrap_or.ensures, c.blocks-end.ensures.is)
+    (first_not_clear line a.station a.distance _ (rw c.blocks-end.ensures.is at found)) in
     record {
-      is = rw (sym same) run;
-      within = omega (
-        arith,
-        run,
-        same,
-        run_short line c.args.station c.args.distance
-            ((c.blocks-blocks.result + 1) - c.args.distance),
-      );
+      is = run;
+      within = omega (arith, run, run_short line a.station a.distance ((blocks line + 1) - a.distance));
     }
