@@ -7,6 +7,7 @@ ghost use Rattle.rules.specs.Table.{answer, after};
 ghost use Rattle.line.specs.Worlds.{world};
 
 use crate::Line;
+use crate::frame::questions::Signal;
 use lamps::Lamps;
 use panel::PANEL_BYTES;
 use rules::detection::SectionState;
@@ -107,8 +108,8 @@ impl<T: Track, L: Lamps> Line<T, L> {
         if !self.frame.has_signal(station, place) {
             return MISSING;
         }
-        self.aspect_at(station, self.frame.distance_to(station, place))
-            .number()
+        let distance = self.frame.distance_to(station, place);
+        self.aspect_at(Signal { station, distance }).number()
     }
 
     // Lit where turning the direction lever over would be turned down: the lever itself is asked.

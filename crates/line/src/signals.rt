@@ -11,6 +11,7 @@ ghost use Rattle.line.specs.Asked.{signal_shown};
 ghost use Rattle.line.specs.Worlds.{world};
 
 use crate::Line;
+use crate::frame::questions::Signal;
 use crate::places::{place_from, road_section};
 use lamps::Lamps;
 use rules::aspect::Aspect;
@@ -27,9 +28,7 @@ impl<T: Track, L: Lamps> Line<T, L> {
             (signal_shown (L.shows self.now.lamps) (world T.cells self.now) station place) }
     {
         let at = self.frame.check_signal(station, place)?;
-        let aspect = self.aspect_at(at.station, at.distance);
-        let count = self.count_at(at.station, at.distance);
-        Ok((aspect, count))
+        Ok((self.aspect_at(at), self.count_at(at)))
     }
 
     // The track reads vacant.
@@ -58,24 +57,23 @@ impl<T: Track, L: Lamps> Line<T, L> {
         self.is_clear(place_from(self.frame.blocks(), station, distance))
     }
 
-    // How many blocks are clear one after the other, from a distance on: none beyond the last block.
-    fn run_ahead(&self, station: Station, distance: u32) -> u32
-        requires { 1 ≤ distance }
-        ensures is { result ≡ run_ahead (world T.cells self.now) station distance }
-        ensures within { result ≤ (blocks (world T.cells self.now) + 1) - distance }
+    // How many blocks are clear one after the other ahead of a signal: none beyond the last block.
+    fn run_ahead(&self, at: Signal) -> u32
+        ensures is { result ≡ run_ahead (world T.cells self.now) at.station at.distance }
+        ensures within { result ≤ (blocks (world T.cells self.now) + 1) - at.distance }
     {
         let end = self.frame.blocks() + 1;
-        (distance..end)
-            .find(|&at| !self.is_clear_ahead(station, at))
+        (at.distance..end)
+            .find(|&distance| !self.is_clear_ahead(at.station, distance))
             .unwrap_or(end)
-            .saturating_sub(distance)
+            .saturating_sub(at.distance)
     }
 
     // Every block is clear where the run from one end is as long as the line.
     pub(crate) fn line_clear(&self) -> bool
         ensures { result ≡ all_clear (world T.cells self.now) (blocks (world T.cells self.now)) }
     {
-        self.run_ahead(Station::EndA, 1) == self.frame.blocks()
+        self.run_ahead(Signal::starter(Station::EndA)) == self.frame.blocks()
     }
 
     fn starter_count(&self, station: Station) -> u32
@@ -83,7 +81,7 @@ impl<T: Track, L: Lamps> Line<T, L> {
         ensures within { result ≤ (blocks (world T.cells self.now) + 1) - 1 }
     {
         let levers = self.frame.levers(station);
-        let run = self.run_ahead(station, 1);
+        let run = self.run_ahead(Signal::starter(station));
         if levers.sends && levers.starter != 0 && self.frame.reach() <= run {
             run
         } else {
@@ -91,13 +89,12 @@ impl<T: Track, L: Lamps> Line<T, L> {
         }
     }
 
-    fn block_count(&self, station: Station, distance: u32) -> u32
-        requires { 1 ≤ distance }
-        ensures is { result ≡ block_count (world T.cells self.now) station distance }
-        ensures within { result ≤ (blocks (world T.cells self.now) + 1) - distance }
+    fn block_count(&self, at: Signal) -> u32
+        ensures is { result ≡ block_count (world T.cells self.now) at.station at.distance }
+        ensures within { result ≤ (blocks (world T.cells self.now) + 1) - at.distance }
     {
-        if self.frame.levers(station).sends {
-            self.run_ahead(station, distance)
+        if self.frame.levers(at.station).sends {
+            self.run_ahead(at)
         } else {
             0
         }
@@ -115,45 +112,41 @@ impl<T: Track, L: Lamps> Line<T, L> {
         u32::from(cleared)
     }
 
-    // The clear sections ahead of the signal at a distance.
-    fn count_at(&self, station: Station, distance: u32) -> u32
-        requires { 1 ≤ distance }
-        ensures is { result ≡ count_at (world T.cells self.now) station distance }
-        ensures within { distance ≤ blocks (world T.cells self.now)
-            → result ≤ (blocks (world T.cells self.now) + 1) - distance }
+    // The clear sections ahead of a signal.
+    fn count_at(&self, at: Signal) -> u32
+        ensures is { result ≡ count_at (world T.cells self.now) at.station at.distance }
+        ensures within { at.distance ≤ blocks (world T.cells self.now)
+            → result ≤ (blocks (world T.cells self.now) + 1) - at.distance }
     {
-        if distance == 1 {
-            self.starter_count(station)
-        } else if distance <= self.frame.blocks() {
-            self.block_count(station, distance)
+        if at.distance == 1 {
+            self.starter_count(at.station)
+        } else if at.distance <= self.frame.blocks() {
+            self.block_count(at)
         } else {
-            self.home_count(station)
+            self.home_count(at.station)
         }
     }
 
     // Their metres: of those blocks, or of the home's road.
-    fn metres_at(&self, station: Station, distance: u32) -> u32
-        requires { 1 ≤ distance }
-        ensures { result ≡ metres_at (world T.cells self.now) station distance }
+    fn metres_at(&self, at: Signal) -> u32
+        ensures { result ≡ metres_at (world T.cells self.now) at.station at.distance }
     {
-        if distance <= self.frame.blocks() {
-            let count = self.count_at(station, distance);
-            return self.frame.block_metres(station, distance, count);
+        if at.distance <= self.frame.blocks() {
+            return self
+                .frame
+                .block_metres(at.station, at.distance, self.count_at(at));
         }
-        if self.home_count(station) == 0 {
+        if self.home_count(at.station) == 0 {
             return 0;
         }
-        let far = station.other();
+        let far = at.station.other();
         self.frame.road_metres(far, self.frame.levers(far).home)
     }
 
-    pub(crate) fn aspect_at(&self, station: Station, distance: u32) -> Aspect
-        requires { 1 ≤ distance }
+    pub(crate) fn aspect_at(&self, at: Signal) -> Aspect
         ensures { result ≡ aspect_at (L.shows self.now.lamps) (world T.cells self.now)
-            station distance }
+            at.station at.distance }
     {
-        let count = self.count_at(station, distance);
-        let metres = self.metres_at(station, distance);
-        self.lamps.aspect(count, metres)
+        self.lamps.aspect(self.count_at(at), self.metres_at(at))
     }
 }

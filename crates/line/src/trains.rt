@@ -9,6 +9,7 @@ ghost use Rattle.line.specs.Moves.{advancing};
 ghost use Rattle.line.specs.Worlds.{world};
 
 use crate::Line;
+use crate::frame::questions::Signal;
 use crate::frame::trains::{Move, legal_card, standing};
 use crate::places::{road_section, station_of};
 use lamps::Lamps;
@@ -119,7 +120,10 @@ impl<T: Track, L: Lamps> Line<T, L> {
         requires { train.front ≤ 16 }
         ensures { result ≡ at_stop (L.shows self.now.lamps) (world T.cells self.now) train }
     {
-        let aspect = self.aspect_at(train.from, train.front + 1);
+        let aspect = self.aspect_at(Signal {
+            station: train.from,
+            distance: train.front + 1,
+        });
         let starter = self.frame.levers(train.from).starter;
         aspect.number() == 0 || train.front == 0 && starter != train.road
     }

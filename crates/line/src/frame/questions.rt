@@ -1,5 +1,6 @@
 // Which signal or section a question is about.
-ghost use Rattle.std.specs.Prelude.{◌≡◌, ◌<◌, ◌≤◌, true, [], ◌∷◌, IfOk, OnOk};
+ghost use Rattle.std.specs.Prelude.{◌≡◌, ◌<◌, ◌≤◌, true, [], ◌∷◌, OnOk};
+ghost use Rattle.std.specs.Result.{result_map_both};
 ghost use Rattle.rules.specs.Calls.{ask_signal, ask_name, verdict, entry_section, not_laid, not_in_use};
 ghost use Rattle.rules.specs.Detection.{legal_section};
 ghost use Rattle.rules.specs.Lines.{in_use};
@@ -14,11 +15,25 @@ use crate::search::search;
 use rules::line::Station;
 use rules::refusal::Refusal;
 
-// A signal, by the station that its trains come from and how many places on it is.
+// A signal, by the station that its trains come from and how many places on the place is that it guards.
 #[derive(Clone, Copy)]
 pub(crate) struct Signal {
     pub(crate) station: Station,
     pub(crate) distance: u32,
+    ghost ahead: { 1 ≤ distance },
+}
+
+impl Signal {
+    // The starters of a station guard the first block.
+    pub(crate) fn starter(station: Station) -> Signal
+        ensures station { result.station ≡ station }
+        ensures distance { result.distance ≡ 1 }
+    {
+        Signal {
+            station,
+            distance: 1,
+        }
+    }
 }
 
 impl Frame {
@@ -41,10 +56,9 @@ impl Frame {
     }
 
     pub(crate) fn check_signal(&self, station: u32, place: u32) -> Result<Signal, Refusal>
-        ensures row { result ≡ answer
-            (verdict nothing_shown (trackless self.now) (ask_signal station place))
+        ensures { result_map_both (λ at. (at.station, at.distance)) (λ refusal. refusal) result
+            ≡ answer (verdict nothing_shown (trackless self.now) (ask_signal station place))
             (signal_at (trackless self.now) station place) }
-        ensures ahead { IfOk result (λ at. 1 ≤ at.distance) }
     {
         if !self.is_laid() {
             return Err(Refusal::NotLaid);

@@ -11,13 +11,13 @@ pub returns : goal.returns
 returns g c =
     let a = c.args in
     let line = world g.T.Track.cells a.self.now in
-    let found = first_passing c.find.result (λ k. not (clear line (place_from (blocks line) a.station k)))
+    let found = first_passing c.find.result (λ k. not (clear line (place_from (blocks line) a.at.station k)))
     (λ k told after called. search rules) c.find.ensures.runs in
-    let run : c.saturating_sub.result ≡ run_ahead line a.station a.distance =
+    let run : c.saturating_sub.result ≡ run_ahead line a.at.station a.at.distance =
     c.saturating_sub.ensures
     ∙ rw (c.unwrap_or.ensures, c.blocks-end.ensures.is)
-    (first_not_clear line a.station a.distance _ (rw c.blocks-end.ensures.is at found)) in
+    (first_not_clear line a.at.station a.at.distance _ (rw c.blocks-end.ensures.is at found)) in
     record {
       is = run;
-      within = omega (arith, run, run_short line a.station a.distance ((blocks line + 1) - a.distance));
+      within = omega (arith, run, run_short line a.at.station a.at.distance ((blocks line + 1) - a.at.distance));
     }
