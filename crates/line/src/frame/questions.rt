@@ -10,7 +10,7 @@ ghost use Rattle.line.specs.Asked.{signal_at, section_named};
 ghost use Rattle.line.specs.Frames.{trackless, nothing_shown};
 
 use crate::frame::Frame;
-use crate::places::{is_road, road_section, station_of};
+use crate::places::{is_road, road_section};
 use crate::search::search;
 use rules::line::Station;
 use rules::refusal::Refusal;
@@ -41,7 +41,7 @@ impl Frame {
         ensures { result ≡ has_signal (trackless self.now) station place }
     {
         match station {
-            Station::EndA => 1 <= place && place <= self.blocks() + 1,
+            Station::EndA => (1..=self.blocks() + 1).contains(&place),
             Station::EndB => place <= self.blocks(),
         }
     }
@@ -63,9 +63,7 @@ impl Frame {
         if !self.is_laid() {
             return Err(Refusal::NotLaid);
         }
-        let Some(station) = station_of(station) else {
-            return Err(Refusal::NoStation);
-        };
+        let station = Station::try_from(station)?;
         if !self.has_signal(station, place) {
             return Err(Refusal::NoSection);
         }
@@ -123,9 +121,7 @@ impl Frame {
         if !self.is_laid() {
             return Err(Refusal::NotLaid);
         }
-        let Some(index) = search(self.plan.as_slice(), name) else {
-            return Err(Refusal::NoSection);
-        };
+        let index = search(self.plan.as_slice(), name).ok_or(Refusal::NoSection)?;
         Ok(self.entry_section(index as u32))
     }
 }
