@@ -9,5 +9,5 @@ mod Passing
 mod Planned
 mod Vacant
 mod PaintedBytes
-mod Working
 mod Histories
+mod Working

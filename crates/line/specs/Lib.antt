@@ -10,3 +10,4 @@ pub mod Exact
 pub mod Results
 pub mod Told
 pub mod History
+pub mod Worked
