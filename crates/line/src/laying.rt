@@ -61,13 +61,7 @@ impl<T: Track, L: Lamps> Line<T, L> {
         if self.frame.is_laid() {
             return Err(Refusal::Laid);
         }
-        if !legal_laying(laying) {
-            return Err(Refusal::BadPlan);
-        }
-        if !legal_plan(laying, plan) {
-            return Err(Refusal::BadPlan);
-        }
-        if !self.all_vacant() {
+        if !legal_laying(laying) || !legal_plan(laying, plan) || !self.all_vacant() {
             return Err(Refusal::BadPlan);
         }
         Ok(())

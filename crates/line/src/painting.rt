@@ -62,6 +62,7 @@ impl<T: Track, L: Lamps> Line<T, L> {
         Ok(())
     }
 
+    // The bytes that a panel shows, from the first on.
     fn panel(&self) -> [u8; PANEL_BYTES]
         ensures { result ≡ panel (L.shows self.now.lamps) (world T.cells self.now) }
     {
