@@ -11,11 +11,12 @@ use Rattle.rules.specs.TrackRuns.{Lawful}
 use Rattle.rules.specs.declared.aspect.Aspect.{Aspect}
 use Rattle.rules.specs.declared.detection.Cell.{Cell}
 use Rattle.rules.specs.declared.refusal.Refusal.{Refusal}
-use Rattle.line.specs.Exact.{exact_answer, exact_after, exact_verdict, Ends}
+use Rattle.line.specs.Exact.{exact_answer, exact_after, exact_verdict}
 use Rattle.line.specs.Results.{done_or, slip_or, taken_or, shown_or, named_or, painted_or}
 use Rattle.line.specs.Slips.{without_slip, GivenBack}
 use Rattle.line.specs.Told.{asked, meant, SlipKept, NoSlipBack, ComesBack}
 use Rattle.line.specs.Worked.{Worked}
+use Rattle.line.specs.Works.{Works}
 use Rattle.line.specs.Worlds.{world}
 use Rattle.line.specs.declared.Line.{Line}
 use Rattle.line.specs.declared.calls.Answer.{Answer}
@@ -109,18 +110,18 @@ module _ {X Y : Type 0} {shows : Y → Shows} {mark : ℕ → ℕ} {cells : X �
       ≡ unless v (result (shows old.lamps) (world cells old) (asked call)))
       → ((returned : Result R Refusal) → SlipKept call (says returned))
       → (returned : Result R Refusal)
-      → Ends (shows old.lamps) mark (world cells old) (asked call) value returned (world cells new)
-      → new.lamps ≡ old.lamps → Worked shows mark cells old call (says returned) new
-  by_call says told kept returned ends lamps =
-      worked (says returned) (ap (λ r. meant (says r)) ends.answer ∙ told _) ends.after lamps (kept returned)
+      → Works shows mark cells old (asked call) value returned new
+      → Worked shows mark cells old call (says returned) new
+  by_call says told kept returned works =
+      worked (says returned) (ap (λ r. meant (says r)) works.ends.answer ∙ told _) works.ends.after works.lamps
+      (kept returned)
 
   -- by a handing-in
   pub by_handing_in : (slip : Slip) → call ≡ HandIn slip → (returned : Result (Unit {0}) (Refusal × Slip))
-      → Ends (shows old.lamps) mark (world cells old) (asked call) tt (without_slip returned) (world cells new)
-      → GivenBack slip returned
-      → new.lamps ≡ old.lamps → Worked shows mark cells old call (taken_or returned) new
-  by_handing_in slip is returned ends back lamps =
-      worked (taken_or returned) (taken_said _ returned ends.answer ∙ rw is refl) ends.after lamps
+      → Works shows mark cells old (asked call) tt (without_slip returned) new → GivenBack slip returned
+      → Worked shows mark cells old call (taken_or returned) new
+  by_handing_in slip is returned works back =
+      worked (taken_or returned) (taken_said _ returned works.ends.answer ∙ rw is refl) works.ends.after works.lamps
       (rw is (taken_back slip returned back))
 
 -- by a question, which leaves the line as it was, turned down or not

@@ -4,7 +4,7 @@ ghost use Rattle.rules.specs.Calls.{lay, verdict, all_vacant, legal_laying, lega
 ghost use Rattle.rules.specs.Lines.{new_line, bare};
 ghost use Rattle.rules.specs.Table.{answer};
 ghost use Rattle.line.specs.Asked.{section_named};
-ghost use Rattle.line.specs.Exact.{Ends};
+ghost use Rattle.line.specs.Works.{Works};
 ghost use Rattle.line.specs.Worlds.{world};
 
 use crate::Line;
@@ -41,9 +41,7 @@ impl<T: Track, L: Lamps> Line<T, L> {
 
     // Lays a bare line over a track that is vacant throughout.
     pub fn lay(&mut self, laying: Laying, plan: &[PlanEntry]) -> Result<(), Refusal>
-        ensures ends { Ends (L.shows self.old.lamps) T.mark (world T.cells self.old)
-            (lay laying plan.now) tt result (world T.cells self.new) }
-        ensures lamps { self.new.lamps ≡ self.old.lamps }
+        ensures { Works L.shows T.mark T.cells self.old (lay laying plan.now) tt result self.new }
     {
         self.check_lay(laying, plan)?;
         self.frame.lay(laying, plan);
