@@ -1,6 +1,7 @@
 -- The run of clear blocks ahead of a signal, block by block.
 use Rattle.std.proofs.Common.{◌≡◌, ℕ, zero, suc, ◌+◌, ◌-◌, ◌<◌, ◌≤◌, true, false, not, eqb, sym, refl, inl, inr, arith}
-use Rattle.std.proofs.lemmas.Bool.{cases_Bool, cases_eq, both_ways, and_parts, and_from, eq-eqb, ne_eqb, not-true, not-false, cases_lt}
+use Rattle.std.proofs.lemmas.Bool.{cases_Bool, cases_eq, both_ways, and_parts, and_from}
+use Rattle.std.proofs.lemmas.Bool.{eq-eqb, ne_eqb, not-true, not-false, cases_lt}
 use Rattle.rules.specs.Calls.{all_clear}
 use Rattle.rules.specs.Lines.{Line, blocks, clear}
 use Rattle.rules.specs.Signals.{clear_run, run_ahead}

@@ -13,7 +13,8 @@ use denote.Param.Members.{Mut, Called}
 
 -- an array of what a call tells at each index, where the calls alter nothing
 module _ {F B : Type 0} (g : Mut F (ℕ × Unit {0}) B) (f : F) (tells : ℕ → B) (n : ℕ)
-    (call : (k : ℕ) (told : B) (after : F) → k < n → Called g f (k, tt) told after → (told ≡ tells k) × (after ≡ f)) where
+    (call : (k : ℕ) (told : B) (after : F) → k < n → Called g f (k, tt) told after
+    → (told ≡ tells k) × (after ≡ f)) where
   told_at : (left i : ℕ) (array : List B) → i + left ≡ n → IsFromFnResultFrom g f array i left
       → (k : ℕ) (d : B) → i ≤ k → k < n → get_or array k d ≡ tells k
   told_at zero i array all made k d low high = absurd (omega arith)
@@ -28,7 +29,8 @@ module _ {F B : Type 0} (g : Mut F (ℕ × Unit {0}) B) (f : F) (tells : ℕ →
 
   pub told_each : (array : List B) (d : B) → IsFromFnResult g f array n → array ≡ map tells (range_with_len 0 n)
   told_each array d made =
-      fill_by_all tells array n d made.long (λ k below. told_at n 0 array (omega arith) made.each k d (omega arith) below)
+      fill_by_all tells array n d made.long
+      (λ k below. told_at n 0 array (omega arith) made.each k d (omega arith) below)
 
 pub panel_long : (shows : Shows) (line : Line) → length (panel shows line) ≡ 66
 unfolding panel

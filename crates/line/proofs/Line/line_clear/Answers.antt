@@ -8,4 +8,6 @@ pub returns : goal.returns
 returns g c =
     let line = world g.T.Track.cells c.args.self.now in
     let all : (blocks line + 1) - 1 ≡ blocks line = omega arith in
-    rw (c.run_ahead.ensures.is, c.starter.ensures.station, c.starter.ensures.distance, c.blocks-2.ensures.is, all) (line_is_clear line (blocks line))
+    let first = c.starter.ensures in
+    rw (c.run_ahead.ensures.is, first.station, first.distance, c.blocks-2.ensures.is, all)
+    (line_is_clear line (blocks line))
