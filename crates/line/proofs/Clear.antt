@@ -1,46 +1,22 @@
 -- The run of clear blocks ahead of a signal, block by block.
-use Rattle.std.proofs.Common.{◌≡◌, ℕ, zero, suc, ◌+◌, ◌-◌, ◌<◌, ◌≤◌, true, false, not, eqb, sym, refl, inl, inr, arith}
+use Rattle.std.proofs.Common.{cond, ap, ◌≡◌, ℕ, zero, suc, ◌+◌, ◌-◌, ◌<◌, ◌≤◌, true, false, not, eqb, sym, refl, inl, inr, arith}
 use Rattle.std.proofs.lemmas.Bool.{cases_Bool, cases_eq, both_ways, and_parts, and_from}
-use Rattle.std.proofs.lemmas.Bool.{eq-eqb, ne_eqb, not-true, not-false, cases_lt}
+use Rattle.std.proofs.lemmas.Bool.{eq-eqb, ne_eqb}
+use Rattle.std.specs.List.{prefix_len, range_with_len}
 use Rattle.rules.specs.Calls.{all_clear}
 use Rattle.rules.specs.Lines.{Line, blocks, clear}
 use Rattle.rules.specs.Signals.{clear_run, run_ahead}
 use Rattle.rules.specs.Stations.{place_from}
 use Rattle.rules.specs.declared.line.Station.{Station}
 use Rattle.rules.specs.declared.line.Station.TheVariants.{EndA}
-use Rattle.line.proofs.Ranges.{FirstPassing, EachBetween}
 
--- the run from a distance on is as long as the first block that is not clear says
-run_up_to : (line : Line) (station : Station) (d n first : ℕ) → d ≤ first → first ≤ d + n
-    → EachBetween d first (λ k. not (clear line (place_from (blocks line) station k)) ≡ false)
-    → (first < d + n → not (clear line (place_from (blocks line) station first)) ≡ true)
-    → clear_run line station d n ≡ first - d
-run_up_to line station d zero first low high before here = omega arith
-run_up_to line station d (suc n) first low high before here =
-    elim (cases_eq first d) [
-      | inl e ↦ rw (not-true _ (rw e at (here (omega arith)))) (omega arith)
-      | inr on ↦
-          rw (not-false _ (before d (omega arith) (omega arith)))
-          (omega (
-            arith,
-            run_up_to line station (d + 1) n first (omega arith) (omega arith) (λ k l u. before k (omega arith) u)
-                (λ lt. here (omega arith)),
-          ))
-    ]
-
-pub first_not_clear : (line : Line) (station : Station) (d first : ℕ)
-    → FirstPassing first d (blocks line + 1) (λ k. not (clear line (place_from (blocks line) station k)))
-    → first - d ≡ run_ahead line station d
-first_not_clear line station d first found =
-    elim (cases_lt (blocks line + 1) d) [
-      | inl beyond ↦
-          let none : (blocks line + 1) - d ≡ 0 = omega arith in
-          rw none (omega (arith, found.below))
-      | inr within ↦
-          let all : d + ((blocks line + 1) - d) ≡ blocks line + 1 = omega arith in
-          sym (run_up_to line station d ((blocks line + 1) - d) first (found.above within) (rw all found.below)
-          found.before (rw all found.here))
-    ]
+-- the run is counted as the blocks are asked one after the other
+pub run_counted : (line : Line) (station : Station) (d n : ℕ)
+    → prefix_len (λ k. clear line (place_from (blocks line) station k)) (range_with_len d n)
+    ≡ clear_run line station d n
+run_counted line station d zero = refl
+run_counted line station d (suc n) =
+    ap (λ run. cond (clear line (place_from (blocks line) station d)) (1 + run) 0) (run_counted line station (d + 1) n)
 
 pub run_short : (line : Line) (station : Station) (d n : ℕ) → clear_run line station d n ≤ n
 run_short line station d zero = omega arith

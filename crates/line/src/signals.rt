@@ -57,16 +57,14 @@ impl<T: Track, L: Lamps> Line<T, L> {
         self.is_clear(place_from(self.frame.blocks(), station, distance))
     }
 
-    // How many blocks are clear one after the other ahead of a signal: none beyond the last block.
+    // How many blocks are clear one after the other ahead of a signal.
     fn run_ahead(&self, at: Signal) -> u32
         ensures is { result ≡ run_ahead (world T.cells self.now) at.station at.distance }
         ensures within { result ≤ (blocks (world T.cells self.now) + 1) - at.distance }
     {
-        let end = self.frame.blocks() + 1;
-        (at.distance..end)
-            .find(|&distance| !self.is_clear_ahead(at.station, distance))
-            .unwrap_or(end)
-            .saturating_sub(at.distance)
+        (at.distance..self.frame.blocks() + 1)
+            .take_while(|&distance| self.is_clear_ahead(at.station, distance))
+            .count() as u32
     }
 
     // Every block is clear where the run from one end is as long as the line.

@@ -1,23 +1,26 @@
-use Rattle.std.proofs.Common.{◌≡◌, ◌+◌, ◌-◌, not, rules, ◌∙◌, arith}
+use Rattle.std.proofs.Common.{ℕ, ◌+◌, ◌-◌, rules, refl, ◌∙◌}
+use Rattle.std.proofs.lemmas.Grind.{common_steps}
+use Rattle.std.proofs.lemmas.Iterator.{YieldsList-from_range}
+use Rattle.std.proofs.lemmas.Iterator.Consumers.{count_from_yields_List}
+use Rattle.std.proofs.lemmas.Iterator.Search.{YieldsList-from_take_while}
+use Rattle.std.proofs.lemmas.List.Folds.{length-prefix_len}
 use Rattle.rules.specs.Lines.{blocks, clear}
-use Rattle.rules.specs.Signals.{run_ahead}
 use Rattle.rules.specs.Stations.{place_from}
 use Rattle.line.specs.Worlds.{world}
-use Rattle.line.proofs.Clear.{first_not_clear, run_short}
-use Rattle.line.proofs.Ranges.{first_passing}
+use Rattle.line.proofs.Clear.{run_counted}
 use Rattle.line.proofs.Line.run_ahead.Goals as goal
 
-pub returns : goal.returns
-returns g c =
-    let a = c.args in
-    let line = world g.T.Track.cells a.self.now in
-    let found = first_passing c.find.result (λ k. not (clear line (place_from (blocks line) a.at.station k)))
-    (λ k told after called. search rules) c.find.ensures.runs in
-    let run : c.saturating_sub.result ≡ run_ahead line a.at.station a.at.distance =
-    c.saturating_sub.ensures
-    ∙ rw (c.unwrap_or.ensures, c.blocks-end.ensures.is)
-    (first_not_clear line a.at.station a.at.distance _ (rw c.blocks-end.ensures.is at found)) in
-    record {
-      is = run;
-      within = omega (arith, run, run_short line a.at.station a.at.distance ((blocks line + 1) - a.at.distance));
-    }
+pub returns-clause-is : goal.returns-clause-is
+returns-clause-is g c =
+    let at = c.args.at in
+    let line = world g.T.Track.cells c.args.self.now in
+    let is_clear = λ (k : ℕ). clear line (place_from (blocks line) at.station k) in
+    let end = c.blocks-2.result + 1 in
+    let asked = c.take_while.ensures in
+    count_from_yields_List _ c.count.result c.count.ensures.ran
+    (YieldsList-from_take_while _ is_clear
+    (YieldsList-from_range at.distance end (end - at.distance) asked.source refl) asked.closure asked.done
+    (λ x b q k. search rules))
+    ∙ length-prefix_len is_clear _
+    ∙ run_counted line at.station at.distance (end - at.distance)
+    ∙ rw c.blocks-2.ensures.is refl
