@@ -1,11 +1,11 @@
 -- The run of clear blocks ahead of a signal, block by block.
-use Rattle.std.proofs.Common.{cond, ap, ◌≡◌, ℕ, zero, suc, ◌+◌, ◌-◌, ◌<◌, ◌≤◌, true, false, not, eqb, sym, refl, inl, inr, arith}
+use Rattle.std.proofs.Common.{cond, ap, ◌≡◌, ℕ, zero, suc, ◌+◌, ◌<◌, ◌≤◌, true, eqb, refl, inl, inr, arith}
 use Rattle.std.proofs.lemmas.Bool.{cases_Bool, cases_eq, both_ways, and_parts, and_from}
 use Rattle.std.proofs.lemmas.Bool.{eq-eqb, ne_eqb}
 use Rattle.std.specs.List.{prefix_len, range_with_len}
 use Rattle.rules.specs.Calls.{all_clear}
 use Rattle.rules.specs.Lines.{Line, blocks, clear}
-use Rattle.rules.specs.Signals.{clear_run, run_ahead}
+use Rattle.rules.specs.Signals.{clear_run}
 use Rattle.rules.specs.Stations.{place_from}
 use Rattle.rules.specs.declared.line.Station.{Station}
 use Rattle.rules.specs.declared.line.Station.TheVariants.{EndA}

@@ -62,7 +62,7 @@ impl<T: Track, L: Lamps> Line<T, L> {
         ensures is { result ≡ run_ahead (world T.cells self.now) at.station at.distance }
         ensures within { result ≤ (blocks (world T.cells self.now) + 1) - at.distance }
     {
-        (at.distance..self.frame.blocks() + 1)
+        (at.distance..=self.frame.blocks())
             .take_while(|&distance| self.is_clear_ahead(at.station, distance))
             .count() as u32
     }
