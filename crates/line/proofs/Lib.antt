@@ -7,7 +7,6 @@ mod Kept
 mod Metres
 mod Passing
 mod Planned
-mod Vacant
 mod PaintedBytes
 mod Histories
 mod Working

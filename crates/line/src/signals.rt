@@ -67,11 +67,11 @@ impl<T: Track, L: Lamps> Line<T, L> {
             .count() as u32
     }
 
-    // Every block is clear where the run from one end is as long as the line.
+    // Every block, from one station to the other.
     pub(crate) fn line_clear(&self) -> bool
         ensures { result ≡ all_clear (world T.cells self.now) (blocks (world T.cells self.now)) }
     {
-        self.run_ahead(Signal::starter(Station::EndA)) == self.frame.blocks()
+        (1..=self.frame.blocks()).all(|block| self.is_clear(block))
     }
 
     fn starter_count(&self, station: Station) -> u32
@@ -79,7 +79,10 @@ impl<T: Track, L: Lamps> Line<T, L> {
         ensures within { result ≤ (blocks (world T.cells self.now) + 1) - 1 }
     {
         let levers = self.frame.levers(station);
-        let run = self.run_ahead(Signal::starter(station));
+        let run = self.run_ahead(Signal {
+            station,
+            distance: 1,
+        });
         if levers.sends && levers.starter != 0 && self.frame.reach() <= run {
             run
         } else {

@@ -23,19 +23,6 @@ pub(crate) struct Signal {
     ghost ahead: { 1 ≤ distance },
 }
 
-impl Signal {
-    // The starters of a station guard the first block.
-    pub(crate) fn starter(station: Station) -> Signal
-        ensures station { result.station ≡ station }
-        ensures distance { result.distance ≡ 1 }
-    {
-        Signal {
-            station,
-            distance: 1,
-        }
-    }
-}
-
 impl Frame {
     pub(crate) fn has_signal(&self, station: Station, place: u32) -> bool
         ensures { result ≡ has_signal (trackless self.now) station place }
