@@ -1,3 +1,4 @@
+mod Ranges
 mod Searching
 mod Asking
 mod Exits
@@ -6,7 +7,6 @@ mod Kept
 mod Metres
 mod Passing
 mod Planned
-mod Vacant
 mod PaintedBytes
-mod Working
 mod Histories
+mod Working

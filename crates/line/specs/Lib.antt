@@ -7,6 +7,8 @@ pub mod Asked
 pub mod Slips
 pub mod Worlds
 pub mod Exact
+pub mod Works
 pub mod Results
 pub mod Told
 pub mod History
+pub mod Worked

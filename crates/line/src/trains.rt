@@ -3,12 +3,13 @@ ghost use Rattle.std.specs.Prelude.{◌≡◌, ◌<◌, ◌≤◌, true, false, 
 ghost use Rattle.rules.specs.Calls.{put_on, withdraw, advance, follow, verdict, standing, some_station, at_stop};
 ghost use Rattle.rules.specs.Lines.{bare, blocks};
 ghost use Rattle.rules.specs.Table.{answer};
-ghost use Rattle.line.specs.Exact.{Ends};
 ghost use Rattle.line.specs.Keeping.{train_kept};
 ghost use Rattle.line.specs.Moves.{advancing};
+ghost use Rattle.line.specs.Works.{Works};
 ghost use Rattle.line.specs.Worlds.{world};
 
 use crate::Line;
+use crate::frame::questions::Signal;
 use crate::frame::trains::{Move, legal_card, standing};
 use crate::places::{road_section, station_of};
 use lamps::Lamps;
@@ -25,9 +26,7 @@ impl<T: Track, L: Lamps> Line<T, L> {
         station: u32,
         road: u32,
     ) -> Result<(), Refusal>
-        ensures ends { Ends (L.shows self.old.lamps) T.mark (world T.cells self.old)
-            (put_on number axles station road) tt result (world T.cells self.new) }
-        ensures lamps { self.new.lamps ≡ self.old.lamps }
+        ensures { Works L.shows T.mark T.cells self.old (put_on number axles station road) tt result self.new }
     {
         let train = self.check_put_on(number, axles, station, road)?;
         if self.frame.is_full() {
@@ -41,9 +40,7 @@ impl<T: Track, L: Lamps> Line<T, L> {
 
     // Takes a train that stands in a road off the line.
     pub fn withdraw(&mut self, number: u32) -> Result<(), Refusal>
-        ensures ends { Ends (L.shows self.old.lamps) T.mark (world T.cells self.old)
-            (withdraw number) tt result (world T.cells self.new) }
-        ensures lamps { self.new.lamps ≡ self.old.lamps }
+        ensures { Works L.shows T.mark T.cells self.old (withdraw number) tt result self.new }
     {
         let gone = self.frame.check_withdraw(number)?;
         self.track.leave(gone.section, gone.axles)?;
@@ -53,9 +50,7 @@ impl<T: Track, L: Lamps> Line<T, L> {
 
     // Moves a train's rear one place towards its front.
     pub fn follow(&mut self, number: u32) -> Result<(), Refusal>
-        ensures ends { Ends (L.shows self.old.lamps) T.mark (world T.cells self.old)
-            (follow number) tt result (world T.cells self.new) }
-        ensures lamps { self.new.lamps ≡ self.old.lamps }
+        ensures { Works L.shows T.mark T.cells self.old (follow number) tt result self.new }
     {
         let moved = self.frame.check_follow(number)?;
         self.track.leave(moved.section, moved.axles)?;
@@ -65,9 +60,7 @@ impl<T: Track, L: Lamps> Line<T, L> {
 
     // Moves a train's front one place on, past a signal that shows proceed.
     pub fn advance(&mut self, number: u32) -> Result<(), Refusal>
-        ensures ends { Ends (L.shows self.old.lamps) T.mark (world T.cells self.old)
-            (advance number) tt result (world T.cells self.new) }
-        ensures lamps { self.new.lamps ≡ self.old.lamps }
+        ensures { Works L.shows T.mark T.cells self.old (advance number) tt result self.new }
     {
         let moved = self.check_advance(number)?;
         self.track.enter(moved.section, moved.axles)?;
@@ -119,7 +112,10 @@ impl<T: Track, L: Lamps> Line<T, L> {
         requires { train.front ≤ 16 }
         ensures { result ≡ at_stop (L.shows self.now.lamps) (world T.cells self.now) train }
     {
-        let aspect = self.aspect_at(train.from, train.front + 1);
+        let aspect = self.aspect_at(Signal {
+            station: train.from,
+            distance: train.front + 1,
+        });
         let starter = self.frame.levers(train.from).starter;
         aspect.number() == 0 || train.front == 0 && starter != train.road
     }

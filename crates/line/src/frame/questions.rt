@@ -1,5 +1,6 @@
 // Which signal or section a question is about.
-ghost use Rattle.std.specs.Prelude.{◌≡◌, ◌<◌, ◌≤◌, true, [], ◌∷◌, IfOk, OnOk};
+ghost use Rattle.std.specs.Prelude.{◌≡◌, ◌<◌, ◌≤◌, true, [], ◌∷◌, OnOk};
+ghost use Rattle.std.specs.Result.{result_map_both};
 ghost use Rattle.rules.specs.Calls.{ask_signal, ask_name, verdict, entry_section, not_laid, not_in_use};
 ghost use Rattle.rules.specs.Detection.{legal_section};
 ghost use Rattle.rules.specs.Lines.{in_use};
@@ -9,16 +10,17 @@ ghost use Rattle.line.specs.Asked.{signal_at, section_named};
 ghost use Rattle.line.specs.Frames.{trackless, nothing_shown};
 
 use crate::frame::Frame;
-use crate::places::{is_road, road_section, station_of};
+use crate::places::{is_road, road_section};
 use crate::search::search;
 use rules::line::Station;
 use rules::refusal::Refusal;
 
-// A signal, by the station that its trains come from and how many places on it is.
+// A signal, by the station that its trains come from and how many places on the place is that it guards.
 #[derive(Clone, Copy)]
 pub(crate) struct Signal {
     pub(crate) station: Station,
     pub(crate) distance: u32,
+    ghost ahead: { 1 ≤ distance },
 }
 
 impl Frame {
@@ -26,7 +28,7 @@ impl Frame {
         ensures { result ≡ has_signal (trackless self.now) station place }
     {
         match station {
-            Station::EndA => 1 <= place && place <= self.blocks() + 1,
+            Station::EndA => (1..=self.blocks() + 1).contains(&place),
             Station::EndB => place <= self.blocks(),
         }
     }
@@ -41,17 +43,14 @@ impl Frame {
     }
 
     pub(crate) fn check_signal(&self, station: u32, place: u32) -> Result<Signal, Refusal>
-        ensures row { result ≡ answer
-            (verdict nothing_shown (trackless self.now) (ask_signal station place))
+        ensures { result_map_both (λ at. (at.station, at.distance)) (λ refusal. refusal) result
+            ≡ answer (verdict nothing_shown (trackless self.now) (ask_signal station place))
             (signal_at (trackless self.now) station place) }
-        ensures ahead { IfOk result (λ at. 1 ≤ at.distance) }
     {
         if !self.is_laid() {
             return Err(Refusal::NotLaid);
         }
-        let Some(station) = station_of(station) else {
-            return Err(Refusal::NoStation);
-        };
+        let station = Station::try_from(station)?;
         if !self.has_signal(station, place) {
             return Err(Refusal::NoSection);
         }
@@ -109,9 +108,7 @@ impl Frame {
         if !self.is_laid() {
             return Err(Refusal::NotLaid);
         }
-        let Some(index) = search(self.plan.as_slice(), name) else {
-            return Err(Refusal::NoSection);
-        };
+        let index = search(self.plan.as_slice(), name).ok_or(Refusal::NoSection)?;
         Ok(self.entry_section(index as u32))
     }
 }

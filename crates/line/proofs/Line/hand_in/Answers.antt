@@ -5,17 +5,21 @@ use Rattle.line.proofs.Line.hand_in.Goals as goal
 
 pub returns-in-Err : goal.returns-in-Err
 returns-in-Err g c = record {
-  ends = ends_so (g.met.L.Lamps.stops _) (g.met.L.Lamps.proceeds _) g.met.T.Track.marked (turned_down _ _ _ _ _ _ _
-      (rw (c.line.ensures, c.block.ensures) at c.in-Err.ensures.row));
+  works = record {
+    ends = ends_so (g.met.L.Lamps.stops _) (g.met.L.Lamps.proceeds _) g.met.T.Track.marked
+        (turned_down _ _ _ _ _ _ _ (rw (c.line.ensures, c.block.ensures) at c.in-Err.ensures.row));
+    lamps = refl;
+  };
   back = refl;
-  lamps = refl;
 }
 
 pub returns-in-Ok : goal.returns-in-Ok
 returns-in-Ok g c = record {
-  ends = ends_so (g.met.L.Lamps.stops _) (g.met.L.Lamps.proceeds _) g.met.T.Track.marked (carried_out _ _ _ _ _ _ _ _
-      (rw (c.line.ensures, c.block.ensures) at c.in-Ok.ensures.row)
-      (λ _. rw c.block-in-Ok.ensures at (c.put_closed.ensures (g.T.Track.cells c.args.self.now.track))));
+  works = record {
+    ends = ends_so (g.met.L.Lamps.stops _) (g.met.L.Lamps.proceeds _) g.met.T.Track.marked
+        (carried_out _ _ _ _ _ _ _ _ (rw (c.line.ensures, c.block.ensures) at c.in-Ok.ensures.row)
+        (λ _. rw c.block-in-Ok.ensures at (c.put_closed.ensures (g.T.Track.cells c.args.self.now.track))));
+    lamps = refl;
+  };
   back = tt;
-  lamps = refl;
 }
