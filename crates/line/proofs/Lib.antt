@@ -1,6 +1,6 @@
 mod Searching
-mod Asking
 mod Exits
+mod Running
 mod Clear
 mod Kept
 mod Metres

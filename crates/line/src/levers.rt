@@ -6,7 +6,7 @@ ghost use Rattle.line.specs.Exact.{Ends};
 ghost use Rattle.line.specs.Worlds.{world};
 
 use crate::Line;
-use crate::places::station_of;
+use crate::frame::levers::Lever;
 use lamps::Lamps;
 use rules::line::Station;
 use rules::refusal::Refusal;
@@ -30,8 +30,8 @@ impl<T: Track, L: Lamps> Line<T, L> {
             (starter station road) tt result (world T.cells self.new) }
         ensures lamps { self.new.lamps ≡ self.old.lamps }
     {
-        let station = self.frame.check_starter(station, road)?;
-        self.frame.put_starter(station, road);
+        let station = self.frame.check_lever(Lever::Starter, station, road)?;
+        self.frame.put_lever(Lever::Starter, station, road);
         Ok(())
     }
 
@@ -41,8 +41,8 @@ impl<T: Track, L: Lamps> Line<T, L> {
             (home station road) tt result (world T.cells self.new) }
         ensures lamps { self.new.lamps ≡ self.old.lamps }
     {
-        let station = self.frame.check_home(station, road)?;
-        self.frame.put_home(station, road);
+        let station = self.frame.check_lever(Lever::Home, station, road)?;
+        self.frame.put_lever(Lever::Home, station, road);
         Ok(())
     }
 
@@ -52,12 +52,7 @@ impl<T: Track, L: Lamps> Line<T, L> {
             (verdict (L.shows self.now.lamps) (world T.cells self.now) (direction station send))
             (some_station station) }
     {
-        if !self.frame.is_laid() {
-            return Err(Refusal::NotLaid);
-        }
-        let Some(station) = station_of(station) else {
-            return Err(Refusal::NoStation);
-        };
+        let station = self.frame.station(station)?;
         let levers = self.frame.levers(station);
         if levers.sends == send {
             return Err(Refusal::ThereAlready);

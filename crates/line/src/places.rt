@@ -1,7 +1,7 @@
 // Where the places and roads of a line are.
 ghost use Rattle.std.specs.Prelude.{◌≡◌, ◌≤◌, true};
 ghost use Rattle.rules.specs.Detection.{legal_section};
-ghost use Rattle.rules.specs.Stations.{station_of, place_from, road_section};
+ghost use Rattle.rules.specs.Stations.{place_from, road_section};
 ghost use Rattle.rules.specs.Table.{within};
 
 use rules::line::Station;
@@ -10,16 +10,6 @@ use rules::line::Station;
 const BEFORE_ROADS_A: u32 = 16;
 
 const BEFORE_ROADS_B: u32 = 20;
-
-pub(crate) fn station_of(number: u32) -> Option<Station>
-    ensures { result ≡ station_of number }
-{
-    match number {
-        1 => Some(Station::EndA),
-        2 => Some(Station::EndB),
-        _ => None,
-    }
-}
 
 // The place that is so many places on from a station, on a line of so many blocks.
 pub(crate) fn place_from(blocks: u32, station: Station, distance: u32) -> u32

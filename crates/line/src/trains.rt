@@ -10,7 +10,7 @@ ghost use Rattle.line.specs.Worlds.{world};
 
 use crate::Line;
 use crate::frame::trains::{Move, legal_card, standing};
-use crate::places::{road_section, station_of};
+use crate::places::road_section;
 use lamps::Lamps;
 use rules::line::Train;
 use rules::refusal::Refusal;
@@ -90,16 +90,8 @@ impl<T: Track, L: Lamps> Line<T, L> {
         ensures kept { IfOk result (λ train. train_kept (blocks (world T.cells self.now)) train ≡ true) }
         ensures laid { OnOk result (bare (world T.cells self.now) ≡ false) }
     {
-        if !self.frame.is_laid() {
-            return Err(Refusal::NotLaid);
-        }
-        let Some(station) = station_of(station) else {
-            return Err(Refusal::NoStation);
-        };
-        if road == 0 {
-            return Err(Refusal::NoRoad);
-        }
-        if self.frame.roads(station) < road {
+        let station = self.frame.station(station)?;
+        if road == 0 || self.frame.roads(station) < road {
             return Err(Refusal::NoRoad);
         }
         if !legal_card(number, axles) {
@@ -133,13 +125,7 @@ impl<T: Track, L: Lamps> Line<T, L> {
         ensures kept { IfOk result
             (λ move. train_kept (blocks (world T.cells self.now)) move.train ≡ true) }
     {
-        if !self.frame.is_laid() {
-            return Err(Refusal::NotLaid);
-        }
-        let Some(index) = self.frame.find(number) else {
-            return Err(Refusal::NoTrain);
-        };
-        let train = self.frame.train(index);
+        let (index, train) = self.frame.running(number)?;
         if train.front == self.frame.blocks() + 1 {
             return Err(Refusal::RoadsEnd);
         }

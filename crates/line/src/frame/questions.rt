@@ -9,7 +9,7 @@ ghost use Rattle.line.specs.Asked.{signal_at, section_named};
 ghost use Rattle.line.specs.Frames.{trackless, nothing_shown};
 
 use crate::frame::Frame;
-use crate::places::{is_road, road_section, station_of};
+use crate::places::{is_road, road_section};
 use crate::search::search;
 use rules::line::Station;
 use rules::refusal::Refusal;
@@ -46,12 +46,7 @@ impl Frame {
             (signal_at (trackless self.now) station place) }
         ensures ahead { IfOk result (λ at. 1 ≤ at.distance) }
     {
-        if !self.is_laid() {
-            return Err(Refusal::NotLaid);
-        }
-        let Some(station) = station_of(station) else {
-            return Err(Refusal::NoStation);
-        };
+        let station = self.station(station)?;
         if !self.has_signal(station, place) {
             return Err(Refusal::NoSection);
         }

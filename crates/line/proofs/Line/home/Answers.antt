@@ -17,6 +17,6 @@ pub returns : goal.returns
 returns g c = record {
   ends = ends_so (g.met.L.Lamps.stops _) (g.met.L.Lamps.proceeds _) g.met.T.Track.marked
       (carried_out _ _ _ _ _ _ _ _ c.in_ok-station.ensures.row
-      (λ is. rw is at (c.put_home.ensures (g.T.Track.cells c.args.self.now.track))));
+      (λ is. rw is at (c.put_lever.ensures (g.T.Track.cells c.args.self.now.track))));
   lamps = refl;
 }
