@@ -1,8 +1,12 @@
 -- What a line keeps to is kept as its trains change.
-use Rattle.std.proofs.Common.{◌≡◌, ℕ, zero, suc, ◌+◌, ◌<◌, ◌≤◌, Bool, true, false, not, ◌||◌, eqb, ltb, leb, List, []}
+use Rattle.std.proofs.Common.{◌≡◌, ℕ, ◌+◌, ◌<◌, ◌≤◌, Bool, true, false, not, ◌||◌, eqb, ltb, leb, List, []}
 use Rattle.std.proofs.Common.{◌∷◌, ◌++◌, length, get_or, take, drop, set, is_some, Some, None, Option, unwrap_or}
-use Rattle.std.proofs.Common.{refl, inl, inr, arith}
+use Rattle.std.proofs.Common.{refl, ◌∙◌, inl, inr, arith}
+use Rattle.std.specs.List.{All, list_all}
 use Rattle.std.proofs.lemmas.List.{length-set}
+use Rattle.std.proofs.lemmas.List.Elements.{All-get_or, All-set, All-take, All-drop}
+use Rattle.std.proofs.lemmas.List.Folds.{list_all-append}
+use Rattle.std.proofs.lemmas.List.Sums.{AllPass-from_list_all, list_all-from_AllPass}
 use Rattle.std.proofs.lemmas.Bool.{and_parts, and_from, or_cases, or_left, eqb-true, leb-true, le-leb, cond_both}
 use Rattle.std.proofs.lemmas.Bool.{both_ways}
 use Rattle.rules.specs.Calls.{front_moved, rear_moved, standing, legal_laying, legal_plan, legal_entries, names_differ}
@@ -16,60 +20,52 @@ use Rattle.rules.specs.declared.line.PlanEntry.{PlanEntry}
 use Rattle.rules.specs.declared.line.Station.{Station}
 use Rattle.rules.specs.declared.line.Station.TheVariants.{EndA, EndB}
 use Rattle.rules.specs.declared.line.Train.{Train}
-use Rattle.line.specs.Keeping.{every, blocks_laid, train_kept, trains_kept, entry_kept, plan_kept, laid_legally}
+use Rattle.line.specs.Keeping.{blocks_laid, train_kept, trains_kept, entry_kept, plan_kept, laid_legally}
 use Rattle.line.specs.Keeping.{levers_kept}
 use Rattle.line.proofs.Planned.{legal_kept}
 
-pub every_at : {X : Type 0} (p : X → Bool) (xs : List X) (i : ℕ) (d : X) → every p xs ≡ true → i < length xs
-    → p (get_or xs i d) ≡ true
-every_at p [] i d all within = absurd (omega arith)
-every_at p (x ∷ xs) zero d all within = (and_parts (p x) (every p xs) all).0
-every_at p (x ∷ xs) (suc i) d all within = every_at p xs i d (and_parts (p x) (every p xs) all).1 (omega arith)
+-- what holds of each of a list holds of one of them, of the list with one of them another, of two lists joined, and of
+-- either part of a list
+module _ {X : Type 0} (p : X → Bool) (xs : List X) (all : list_all p xs ≡ true) where
+  abbrev passes : X → Type 0
+  passes x = p x ≡ true
 
-every_set : {X : Type 0} (p : X → Bool) (xs : List X) (i : ℕ) (y : X) → every p xs ≡ true → p y ≡ true
-    → every p (set xs i y) ≡ true
-every_set p [] i y all new = refl
-every_set p (x ∷ xs) zero y all new = and_from _ _ new (and_parts (p x) (every p xs) all).1
-every_set p (x ∷ xs) (suc i) y all new =
-    let both = and_parts (p x) (every p xs) all in
-    and_from _ _ both.0 (every_set p xs i y both.1 new)
+  abbrev each : All passes xs
+  each = AllPass-from_list_all p xs all
 
-pub every_join : {X : Type 0} (p : X → Bool) (xs ys : List X) → every p xs ≡ true → every p ys ≡ true
-    → every p (xs ++ ys) ≡ true
-every_join p [] ys first second = second
-every_join p (x ∷ xs) ys first second =
-    let both = and_parts (p x) (every p xs) first in
-    and_from _ _ both.0 (every_join p xs ys both.1 second)
+  pub each_at : (i : ℕ) (d : X) → i < length xs → p (get_or xs i d) ≡ true
+  each_at i d within = All-get_or passes xs i d within each
 
-pub every_part : {X : Type 0} (p : X → Bool) (n : ℕ) (xs : List X) → every p xs ≡ true
-    → (every p (take n xs) ≡ true) × (every p (drop n xs) ≡ true)
-every_part p zero xs all = (refl, all)
-every_part p (suc n) [] all = (refl, refl)
-every_part p (suc n) (x ∷ xs) all =
-    let both = and_parts (p x) (every p xs) all in
-    let rest = every_part p n xs both.1 in
-    (and_from _ _ both.0 rest.0, rest.1)
+  each_set : (i : ℕ) (y : X) → p y ≡ true → list_all p (set xs i y) ≡ true
+  each_set i y new = list_all-from_AllPass p _ (All-set passes xs i y new each)
+
+  each_join : (ys : List X) → list_all p ys ≡ true → list_all p (xs ++ ys) ≡ true
+  each_join ys more = list_all-append p xs ys ∙ rw (all, more) refl
+
+  pub each_part : (n : ℕ) → (list_all p (take n xs) ≡ true) × (list_all p (drop n xs) ≡ true)
+  each_part n =
+      (list_all-from_AllPass p _ (All-take passes n xs each), list_all-from_AllPass p _ (All-drop passes n xs each))
 
 -- trains of a line, one of them another, one more, one less
 module _ (laying : Option Laying) (trains : List Train) (kept : trains_kept laying trains ≡ true) where
   abbrev n : ℕ
   n = blocks_laid laying
 
-  parts : ((is_some laying || eqb (length trains) 0) ≡ true) × (every (train_kept n) trains ≡ true)
-  parts = and_parts (is_some laying || eqb (length trains) 0) (every (train_kept n) trains) kept
+  parts : ((is_some laying || eqb (length trains) 0) ≡ true) × (list_all (train_kept n) trains ≡ true)
+  parts = and_parts (is_some laying || eqb (length trains) 0) (list_all (train_kept n) trains) kept
 
   pub train_kept_at : (i : ℕ) (d : Train) → i < length trains → train_kept n (get_or trains i d) ≡ true
-  train_kept_at i d within = every_at (train_kept n) trains i d parts.1 within
+  train_kept_at i d within = each_at (train_kept n) trains parts.1 i d within
 
   pub kept_put : (i : ℕ) (train : Train) → train_kept n train ≡ true → trains_kept laying (set trains i train) ≡ true
   kept_put i train new =
-      and_from _ _ (rw (length-set trains i train) parts.0) (every_set (train_kept n) trains i train parts.1 new)
+      and_from _ _ (rw (length-set trains i train) parts.0) (each_set (train_kept n) trains parts.1 i train new)
 
   pub kept_pushed : (train : Train) → is_some laying ≡ true → train_kept n train ≡ true
       → trains_kept laying (trains ++ train ∷ []) ≡ true
   kept_pushed train laid new =
       and_from _ _ (or_left _ _ laid)
-      (every_join (train_kept n) trains (train ∷ []) parts.1 (and_from _ _ new refl))
+      (each_join (train_kept n) trains parts.1 (train ∷ []) (and_from _ _ new refl))
 
   pub kept_removed : (i : ℕ) → i < length trains → trains_kept laying (take i trains ++ drop (i + 1) trains) ≡ true
   kept_removed i within =
@@ -77,8 +73,8 @@ module _ (laying : Option Laying) (trains : List Train) (kept : trains_kept layi
         | inl laid ↦ or_left _ _ laid
         | inr none ↦ absurd (omega (arith, eqb-true (length trains) 0 none))
       ])
-      (every_join (train_kept n) (take i trains) (drop (i + 1) trains)
-      (every_part (train_kept n) i trains parts.1).0 (every_part (train_kept n) (i + 1) trains parts.1).1)
+      (each_join (train_kept n) (take i trains) (each_part (train_kept n) trains parts.1 i).0 (drop (i + 1) trains)
+      (each_part (train_kept n) trains parts.1 (i + 1)).1)
 
 -- the limits of one train, taken apart and put together
 pub record Placed (n : ℕ) (train : Train) : Type 0 where
@@ -143,12 +139,12 @@ front_kept line train kept going few =
       into = cond_both (eqb train.front (blocks line)) far 0 (λ road. road ≤ 4) (λ _. few) (λ _. omega arith);
     })
 
--- the plan has an entry for each block, and every entry keeps to its limits
+-- the plan has an entry for each block, and list_all entry keeps to its limits
 pub plan_parts : (line : Line) → plan_kept line.laying line.plan ≡ true
-    → (length line.plan ≡ blocks line + roads line EndA + roads line EndB) × (every entry_kept line.plan ≡ true)
+    → (length line.plan ≡ blocks line + roads line EndA + roads line EndB) × (list_all entry_kept line.plan ≡ true)
 plan_parts line kept =
     let both = and_parts (eqb (length line.plan) (blocks line + roads line EndA + roads line EndB))
-    (every entry_kept line.plan) kept in
+    (list_all entry_kept line.plan) kept in
     (eqb-true _ _ both.0, both.1)
 
 -- a line, laid or bare, has at most 16 blocks and 4 roads at a station
@@ -179,10 +175,10 @@ home_kept levers kept =
 
 -- a bare line has no trains, so that they fit any laying
 pub no_trains_kept : (old : Option Laying) (laying : Laying) (trains : List Train) → not (is_some old) ≡ true
-    → trains_kept old trains ≡ true → every (train_kept laying.blocks) trains ≡ true
+    → trains_kept old trains ≡ true → list_all (train_kept laying.blocks) trains ≡ true
 no_trains_kept None laying [] bare kept = refl
 no_trains_kept None laying (train ∷ trains) bare kept =
-    let none = (and_parts (eqb (length (train ∷ trains)) 0) (every (train_kept 0) (train ∷ trains)) kept).0 in
+    let none = (and_parts (eqb (length (train ∷ trains)) 0) (list_all (train_kept 0) (train ∷ trains)) kept).0 in
     absurd (omega (arith, eqb-true (length (train ∷ trains)) 0 none))
 no_trains_kept (Some old) laying trains bare kept = absurd (both_ways false refl bare)
 

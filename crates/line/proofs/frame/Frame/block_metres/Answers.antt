@@ -2,7 +2,7 @@ use Rattle.std.proofs.Common.{◌≡◌, ◌+◌, ◌-◌, drop, vec_items, sym,
 use Rattle.std.proofs.lemmas.List.{length-take}
 use Rattle.line.specs.Frames.{trackless}
 use Rattle.line.specs.Keeping.{entry_kept}
-use Rattle.line.proofs.Kept.{every_part, few_sections, plan_parts}
+use Rattle.line.proofs.Kept.{each_part, few_sections, plan_parts}
 use Rattle.line.proofs.Metres.{metres_of_part}
 use Rattle.line.proofs.frame.Frame.block_metres.Goals as goal
 
@@ -16,7 +16,7 @@ sum_metres-requires c =
     let few = (few_sections c.args.self.now.laying c.args.self.now.legal).0 in
     record {
       kept = rw c.as_slice-plan.ensures.value
-          (every_part entry_kept count (drop start plan) (every_part entry_kept start plan all).1).0;
+          (each_part entry_kept (drop start plan) (each_part entry_kept plan all start).1 count).0;
       few = omega (arith, few, length-take count (drop start c.as_slice-plan.result.now));
     }
 

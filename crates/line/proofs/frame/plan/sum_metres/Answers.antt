@@ -1,15 +1,16 @@
 use Rattle.std.proofs.Common.{◌≡◌, ℕ, ◌<◌, ◌≤◌, true, List, length, get_or, ap, ◌∙◌, arith}
+use Rattle.std.specs.List.{list_all}
 use Rattle.std.proofs.lemmas.List.{take_all}
 use Rattle.std.proofs.lemmas.List.Sums.{sum_by_more}
 use Rattle.rules.specs.declared.line.PlanEntry.{PlanEntry}
-use Rattle.line.specs.Keeping.{entry_kept, every}
-use Rattle.line.proofs.Kept.{every_at}
+use Rattle.line.specs.Keeping.{entry_kept}
+use Rattle.line.proofs.Kept.{each_at}
 use Rattle.line.proofs.Metres.{metres_sum, short_entry, no_entry}
 use Rattle.line.proofs.frame.plan.sum_metres.Goals as goal
 
-short : (part : List PlanEntry) (i : ℕ) → every entry_kept part ≡ true → i < length part
+short : (part : List PlanEntry) (i : ℕ) → list_all entry_kept part ≡ true → i < length part
     → (get_or part i no_entry).metres ≤ 9999
-short part i kept inside = short_entry _ (every_at entry_kept part i no_entry kept inside)
+short part i kept inside = short_entry _ (each_at entry_kept part kept i no_entry inside)
 
 pub overflow_add-metres : goal.overflow_add-metres
 overflow_add-metres c =
