@@ -7,6 +7,7 @@ ghost use Rattle.line.specs.Worlds.{world};
 
 use crate::Line;
 use crate::frame::levers::Lever;
+use crate::places::Road;
 use lamps::Lamps;
 use rules::line::Station;
 use rules::refusal::Refusal;
@@ -31,7 +32,13 @@ impl<T: Track, L: Lamps> Line<T, L> {
         ensures lamps { self.new.lamps ≡ self.old.lamps }
     {
         let station = self.frame.check_lever(Lever::Starter, station, road)?;
-        self.frame.put_lever(Lever::Starter, station, road);
+        self.frame.put_lever(
+            Lever::Starter,
+            Road {
+                station,
+                number: road,
+            },
+        );
         Ok(())
     }
 
@@ -42,7 +49,13 @@ impl<T: Track, L: Lamps> Line<T, L> {
         ensures lamps { self.new.lamps ≡ self.old.lamps }
     {
         let station = self.frame.check_lever(Lever::Home, station, road)?;
-        self.frame.put_lever(Lever::Home, station, road);
+        self.frame.put_lever(
+            Lever::Home,
+            Road {
+                station,
+                number: road,
+            },
+        );
         Ok(())
     }
 

@@ -10,7 +10,7 @@ ghost use Rattle.line.specs.Asked.{signal_shown};
 ghost use Rattle.line.specs.Worlds.{world};
 
 use crate::Line;
-use crate::places::{place_from, road_section};
+use crate::places::place_from;
 use lamps::Lamps;
 use rules::aspect::Aspect;
 use rules::detection::SectionState;
@@ -101,7 +101,7 @@ impl<T: Track, L: Lamps> Line<T, L> {
         if home == 0 {
             return 0;
         }
-        if self.is_clear(road_section(station.other(), home)) {
+        if self.is_clear(self.frame.home_road(station.other()).section()) {
             1
         } else {
             0
@@ -137,7 +137,7 @@ impl<T: Track, L: Lamps> Line<T, L> {
             return 0;
         }
         let far = station.other();
-        self.frame.road_metres(far, self.frame.levers(far).home)
+        self.frame.road_metres(self.frame.home_road(far))
     }
 
     pub(crate) fn aspect_at(&self, station: Station, distance: u32) -> Aspect

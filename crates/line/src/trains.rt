@@ -10,7 +10,7 @@ ghost use Rattle.line.specs.Worlds.{world};
 
 use crate::Line;
 use crate::frame::trains::{Move, legal_card, standing};
-use crate::places::road_section;
+use crate::places::Road;
 use lamps::Lamps;
 use rules::line::Train;
 use rules::refusal::Refusal;
@@ -33,8 +33,11 @@ impl<T: Track, L: Lamps> Line<T, L> {
         if self.frame.is_full() {
             return Err(Refusal::NotClear);
         }
-        self.track
-            .enter(road_section(train.from, train.road), train.axles)?;
+        let road = Road {
+            station: train.from,
+            number: train.road,
+        };
+        self.track.enter(road.section(), train.axles)?;
         self.frame.push_train(train);
         Ok(())
     }
@@ -100,7 +103,12 @@ impl<T: Track, L: Lamps> Line<T, L> {
         if self.frame.find(number).is_some() {
             return Err(Refusal::NumberInUse);
         }
-        if !self.is_clear(road_section(station, road)) {
+        let section = Road {
+            station,
+            number: road,
+        }
+        .section();
+        if !self.is_clear(section) {
             return Err(Refusal::NotClear);
         }
         Ok(standing(number, axles, station, road))

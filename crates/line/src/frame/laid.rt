@@ -7,6 +7,7 @@ ghost use Rattle.line.specs.Frames.{trackless};
 ghost use Rattle.line.specs.Keeping.{levers_kept};
 
 use crate::frame::{Frame, MOST, MOST_BLOCKS};
+use crate::places::Road;
 use rules::line::{Laying, Levers, Station};
 use rules::refusal::Refusal;
 use std::alloc::{AllocError, Global};
@@ -89,6 +90,17 @@ impl Frame {
         })
     }
 
+    // The last road of a station.
+    pub(crate) fn last_road(&self, station: Station) -> Road
+        ensures station { result.station ≡ station }
+        ensures number { result.number ≡ roads (trackless self.now) station }
+    {
+        Road {
+            station,
+            number: self.roads(station),
+        }
+    }
+
     pub(crate) fn levers(&self, station: Station) -> Levers
         ensures is { result ≡ levers_at (trackless self.now) station }
         ensures kept { levers_kept result ≡ true }
@@ -96,6 +108,17 @@ impl Frame {
         match station {
             Station::EndA => self.at_a,
             Station::EndB => self.at_b,
+        }
+    }
+
+    // The road that the home of a station is reversed for.
+    pub(crate) fn home_road(&self, station: Station) -> Road
+        ensures station { result.station ≡ station }
+        ensures number { result.number ≡ (levers_at (trackless self.now) station).home }
+    {
+        Road {
+            station,
+            number: self.levers(station).home,
         }
     }
 }

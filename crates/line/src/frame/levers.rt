@@ -8,6 +8,7 @@ ghost use Rattle.line.specs.Keeping.{levers_kept};
 ghost use Rattle.line.specs.Levers.{lever_call, lever_put, lever_road, may_reverse, lever_held};
 
 use crate::frame::Frame;
+use crate::places::Road;
 use rules::line::{Levers, Station};
 use rules::refusal::Refusal;
 
@@ -135,12 +136,11 @@ impl Frame {
         );
     }
 
-    pub(crate) fn put_lever(&mut self, lever: Lever, station: Station, road: u32)
-        requires { road ≤ 4 }
-        ensures { Becomes (λ line. with_levers line station (lever_put lever (levers_at line station) road))
-            self.old self.new }
+    pub(crate) fn put_lever(&mut self, lever: Lever, road: Road)
+        ensures { Becomes (λ line. with_levers line road.station
+            (lever_put lever (levers_at line road.station) road.number)) self.old self.new }
     {
-        let levers = self.levers(station);
-        self.put_levers(station, lever.put(levers, road));
+        let levers = self.levers(road.station);
+        self.put_levers(road.station, lever.put(levers, road.number));
     }
 }

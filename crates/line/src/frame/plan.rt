@@ -10,6 +10,7 @@ ghost use Rattle.line.specs.Keeping.{entry_kept};
 ghost use Rattle.line.specs.Parts.{part_start};
 
 use crate::frame::{Frame, MOST_BLOCKS};
+use crate::places::Road;
 use rules::line::{Laying, PlanEntry, Station};
 
 const MOST_ROADS: u32 = 4;
@@ -131,15 +132,14 @@ impl Frame {
             .map_or(0, |entry| entry.metres)
     }
 
-    pub(crate) fn road_metres(&self, station: Station, road: u32) -> u32
-        requires { road ≤ 4 }
+    pub(crate) fn road_metres(&self, road: Road) -> u32
         ensures { result ≡ metres_of_entry (trackless self.now)
-            (road_index (trackless self.now) station road) }
+            (road_index (trackless self.now) road.station road.number) }
     {
-        let before = match station {
+        let before = match road.station {
             Station::EndA => self.blocks(),
             Station::EndB => self.blocks() + self.roads(Station::EndA),
         };
-        self.metres_of((before + road).saturating_sub(1))
+        self.metres_of((before + road.number).saturating_sub(1))
     }
 }

@@ -12,7 +12,7 @@ ghost use Rattle.line.specs.Moves.{running, taking_off, following};
 
 use crate::frame::plan::MOST_NUMBER;
 use crate::frame::{Frame, MOST};
-use crate::places::{place_from, road_section};
+use crate::places::{Road, place_from};
 use crate::search::search;
 use rules::detection::{FEWEST_AXLES, MOST_AXLES};
 use rules::line::{Station, Train};
@@ -94,11 +94,19 @@ impl Frame {
     {
         let blocks = self.blocks();
         if distance == 0 {
-            road_section(train.from, train.road)
+            Road {
+                station: train.from,
+                number: train.road,
+            }
+            .section()
         } else if distance <= blocks {
             place_from(blocks, train.from, distance)
         } else {
-            road_section(train.from.other(), train.into)
+            Road {
+                station: train.from.other(),
+                number: train.into,
+            }
+            .section()
         }
     }
 

@@ -4,7 +4,6 @@ use Rattle.rules.specs.Stations.{road_section}
 use Rattle.rules.specs.declared.detection.TrackCall.TheVariants.{Enter}
 use Rattle.rules.specs.declared.line.Train.{Train}
 use Rattle.line.specs.Frames.{with_cells}
-use Rattle.line.proofs.Kept.{placed}
 use Rattle.line.proofs.Histories.{ends_so}
 use Rattle.line.proofs.Exits.{passed, rules_turn_down, no_room_left, track_turns_down, track_takes}
 use Rattle.line.proofs.Line.put_on.Goals as goal
@@ -27,9 +26,6 @@ returns-then-is_full g c =
       lamps = refl;
     }
 
-pub road_section-requires : goal.road_section-requires
-road_section-requires g c = (placed _ c.in_ok-train.train c.in_ok-train.ensures.kept).road
-
 pub returns-in_err-enter : goal.returns-in_err-enter
 returns-in_err-enter g c =
     let p = err_from_is_err_and c.from_residual-in_err-enter.result c.from_residual-in_err-enter.ensures.1 in
@@ -40,7 +36,7 @@ returns-in_err-enter g c =
           (track_turns_down _ _ _ _ _ _ met.0 (rw (sym c.if-is_full.ensures) refl)
           (ap (λ (train : Train). Some (Enter (road_section train.from train.road) train.axles)) (sym met.1))
           (λ cells. with_cells cells c.args.self.now.frame) _ _ refl
-          (rw c.road_section.ensures at told.answer) (rw c.road_section.ensures at told.after));
+          (rw c.section.ensures at told.answer) (rw c.section.ensures at told.after));
       lamps = refl;
     })
 
@@ -52,7 +48,7 @@ returns g c =
       ends = ends_so (g.met.L.Lamps.stops _) (g.met.L.Lamps.proceeds _) g.met.T.Track.marked
           (track_takes _ _ _ _ _ _ met.0 (rw (sym c.if-is_full.ensures) refl)
           (ap (λ (train : Train). Some (Enter (road_section train.from train.road) train.axles)) (sym met.1))
-          _ (rw c.road_section.ensures at told.answer)
-          (c.push_train.ensures _ ∙ rw (told.after, c.road_section.ensures, met.1) refl));
+          _ (rw c.section.ensures at told.answer)
+          (c.push_train.ensures _ ∙ rw (told.after, c.section.ensures, met.1) refl));
       lamps = refl;
     }
