@@ -1,11 +1,18 @@
 -- A starter and a home as one lever: the call that puts it, and in what the two differ.
-use Rattle.std.specs.Prelude.{ℕ, Bool, not}
+use Rattle.std.specs.Prelude.{ℕ, Bool, not, Ok, Err, Result}
 use Rattle.rules.specs.Calls.{Call, starter, home, starter_put, home_put, starter_held, home_held}
 use Rattle.rules.specs.Lines.{Line}
 use Rattle.rules.specs.declared.line.Levers.{Levers}
 use Rattle.rules.specs.declared.line.Station.{Station}
+use Rattle.rules.specs.declared.refusal.Refusal.{Refusal}
 use Rattle.line.specs.declared.frame.levers.Lever.{Lever}
 use Rattle.line.specs.declared.frame.levers.Lever.TheVariants.{Starter, Home}
+use Rattle.line.specs.declared.places.Road.{Road}
+
+-- the road that it may be put for, by station and number
+abbrev pub station_and_road : Result Road Refusal → Result (Station × ℕ) Refusal
+station_and_road (Ok road) = Ok (road.station, road.number)
+station_and_road (Err refusal) = Err refusal
 
 -- the call that puts it for a road, at the station of a number
 abbrev pub lever_call : Lever → ℕ → ℕ → Call

@@ -7,7 +7,6 @@ ghost use Rattle.line.specs.Worlds.{world};
 
 use crate::Line;
 use crate::frame::levers::Lever;
-use crate::places::Road;
 use lamps::Lamps;
 use rules::line::Station;
 use rules::refusal::Refusal;
@@ -31,14 +30,8 @@ impl<T: Track, L: Lamps> Line<T, L> {
             (starter station road) tt result (world T.cells self.new) }
         ensures lamps { self.new.lamps ≡ self.old.lamps }
     {
-        let station = self.frame.check_lever(Lever::Starter, station, road)?;
-        self.frame.put_lever(
-            Lever::Starter,
-            Road {
-                station,
-                number: road,
-            },
-        );
+        let road = self.frame.check_lever(Lever::Starter, station, road)?;
+        self.frame.put_lever(Lever::Starter, road);
         Ok(())
     }
 
@@ -48,14 +41,8 @@ impl<T: Track, L: Lamps> Line<T, L> {
             (home station road) tt result (world T.cells self.new) }
         ensures lamps { self.new.lamps ≡ self.old.lamps }
     {
-        let station = self.frame.check_lever(Lever::Home, station, road)?;
-        self.frame.put_lever(
-            Lever::Home,
-            Road {
-                station,
-                number: road,
-            },
-        );
+        let road = self.frame.check_lever(Lever::Home, station, road)?;
+        self.frame.put_lever(Lever::Home, road);
         Ok(())
     }
 

@@ -10,7 +10,6 @@ ghost use Rattle.line.specs.Worlds.{world};
 
 use crate::Line;
 use crate::frame::trains::{Move, legal_card, standing};
-use crate::places::Road;
 use lamps::Lamps;
 use rules::line::Train;
 use rules::refusal::Refusal;
@@ -33,11 +32,8 @@ impl<T: Track, L: Lamps> Line<T, L> {
         if self.frame.is_full() {
             return Err(Refusal::NotClear);
         }
-        let road = Road {
-            station: train.from,
-            number: train.road,
-        };
-        self.track.enter(road.section(), train.axles)?;
+        let section = self.frame.section_of(train, 0);
+        self.track.enter(section, train.axles)?;
         self.frame.push_train(train);
         Ok(())
     }
@@ -103,15 +99,11 @@ impl<T: Track, L: Lamps> Line<T, L> {
         if self.frame.find(number).is_some() {
             return Err(Refusal::NumberInUse);
         }
-        let section = Road {
-            station,
-            number: road,
-        }
-        .section();
-        if !self.is_clear(section) {
+        let train = standing(number, axles, station, road);
+        if !self.is_clear(self.frame.section_of(train, 0)) {
             return Err(Refusal::NotClear);
         }
-        Ok(standing(number, axles, station, road))
+        Ok(train)
     }
 
     // The signal ahead shows stop, or the train stands in a road that the starter is not reversed for.

@@ -5,7 +5,7 @@ ghost use Rattle.rules.specs.Lines.{levers_at};
 ghost use Rattle.rules.specs.Table.{answer};
 ghost use Rattle.line.specs.Frames.{trackless, nothing_shown, Becomes};
 ghost use Rattle.line.specs.Keeping.{levers_kept};
-ghost use Rattle.line.specs.Levers.{lever_call, lever_put, lever_road, may_reverse, lever_held};
+ghost use Rattle.line.specs.Levers.{lever_call, lever_put, lever_road, may_reverse, lever_held, station_and_road};
 
 use crate::frame::Frame;
 use crate::places::Road;
@@ -85,15 +85,10 @@ impl Frame {
     }
 
     // Whether a lever may be put there, at the station of that number.
-    pub(crate) fn check_lever(
-        &self,
-        lever: Lever,
-        station: u32,
-        road: u32,
-    ) -> Result<Station, Refusal>
-        ensures row { result ≡ answer
-            (verdict nothing_shown (trackless self.now) (lever_call lever station road)) (some_station station) }
-        ensures few { OnOk result (road ≤ 4) }
+    pub(crate) fn check_lever(&self, lever: Lever, station: u32, road: u32) -> Result<Road, Refusal>
+        ensures { station_and_road result ≡ answer
+            (verdict nothing_shown (trackless self.now) (lever_call lever station road))
+            (some_station station, road) }
     {
         let station = self.station(station)?;
         let levers = self.levers(station);
@@ -109,7 +104,10 @@ impl Frame {
         if road == 0 && self.is_held(lever, station) {
             return Err(Refusal::Held);
         }
-        Ok(station)
+        Ok(Road {
+            station,
+            number: road,
+        })
     }
 
     fn put_levers(&mut self, station: Station, levers: Levers)

@@ -36,7 +36,7 @@ returns-in_err-enter g c =
           (track_turns_down _ _ _ _ _ _ met.0 (rw (sym c.if-is_full.ensures) refl)
           (ap (λ (train : Train). Some (Enter (road_section train.from train.road) train.axles)) (sym met.1))
           (λ cells. with_cells cells c.args.self.now.frame) _ _ refl
-          (rw c.section.ensures at told.answer) (rw c.section.ensures at told.after));
+          (rw c.section_of-section.ensures at told.answer) (rw c.section_of-section.ensures at told.after));
       lamps = refl;
     })
 
@@ -48,7 +48,7 @@ returns g c =
       ends = ends_so (g.met.L.Lamps.stops _) (g.met.L.Lamps.proceeds _) g.met.T.Track.marked
           (track_takes _ _ _ _ _ _ met.0 (rw (sym c.if-is_full.ensures) refl)
           (ap (λ (train : Train). Some (Enter (road_section train.from train.road) train.axles)) (sym met.1))
-          _ (rw c.section.ensures at told.answer)
-          (c.push_train.ensures _ ∙ rw (told.after, c.section.ensures, met.1) refl));
+          _ (rw c.section_of-section.ensures at told.answer)
+          (c.push_train.ensures _ ∙ rw (told.after, c.section_of-section.ensures, met.1) refl));
       lamps = refl;
     }
