@@ -9,8 +9,8 @@ use Rattle.std.proofs.lemmas.List.Folds.{list_all-append}
 use Rattle.std.proofs.lemmas.List.Sums.{AllPass-from_list_all, list_all-from_AllPass}
 use Rattle.std.proofs.lemmas.Bool.{and_parts, and_from, or_cases, or_left, eqb-true, leb-true, le-leb, cond_both}
 use Rattle.std.proofs.lemmas.Bool.{both_ways}
-use Rattle.rules.specs.Calls.{front_moved, rear_moved, standing, legal_laying, legal_plan, legal_entries, names_differ}
-use Rattle.rules.specs.Lines.{Line, blocks, roads, roads_of, no_laying, levers_at}
+use Rattle.rules.specs.Calls.{rear_moved, standing, legal_laying, legal_plan, legal_entries, names_differ}
+use Rattle.rules.specs.Lines.{Line, blocks, roads, roads_of, no_laying}
 use Rattle.rules.specs.Stations.{other_end}
 use Rattle.rules.specs.Table.{within}
 use Rattle.promises.proofs.Moves.{with_rear}
@@ -125,21 +125,7 @@ rear_kept line train kept apart =
       into = is.into;
     }))
 
-pub front_kept : (line : Line) (train : Train) → train_kept (blocks line) train ≡ true
-    → (train.front ≡ blocks line + 1 → ⊥) → (levers_at line (other_end train.from)).home ≤ 4
-    → train_kept (blocks line) (front_moved line train) ≡ true
-front_kept line train kept going few =
-    let is = placed (blocks line) train kept in
-    let far = (levers_at line (other_end train.from)).home in
-    is_kept (blocks line) (front_moved line train) (record {
-      numbered = is.numbered;
-      behind = omega (arith, is.behind);
-      ahead = omega (arith, is.ahead, going);
-      road = is.road;
-      into = cond_both (eqb train.front (blocks line)) far 0 (λ road. road ≤ 4) (λ _. few) (λ _. omega arith);
-    })
-
--- the plan has an entry for each block, and list_all entry keeps to its limits
+-- the plan has an entry for each block, and every entry keeps to its limits
 pub plan_parts : (line : Line) → plan_kept line.laying line.plan ≡ true
     → (length line.plan ≡ blocks line + roads line EndA + roads line EndB) × (list_all entry_kept line.plan ≡ true)
 plan_parts line kept =

@@ -117,13 +117,6 @@ impl Frame {
         ensures is { result ≡ front_moved (trackless self.now) train }
         ensures kept { train_kept (blocks (trackless self.now)) result ≡ true }
     {
-        self.front_on(train)
-    }
-
-    fn front_on(&self, train: Train) -> Train
-        requires { train.front ≤ 16 }
-        ensures { result ≡ front_moved (trackless self.now) train }
-    {
         let into = if train.front == self.blocks() {
             self.levers(train.from.other()).home
         } else {

@@ -1,29 +1,28 @@
-use Rattle.std.proofs.Common.{◌≤◌, arith}
-use Rattle.rules.specs.Lines.{blocks, levers_at}
-use Rattle.rules.specs.Stations.{other_end}
-use Rattle.rules.specs.declared.line.Station.{Station}
-use Rattle.rules.specs.declared.line.Station.TheVariants.{EndA, EndB}
+use Rattle.std.proofs.Common.{◌+◌, ◌≤◌, arith}
+use Rattle.rules.specs.Lines.{blocks}
+use Rattle.promises.proofs.Moves.{with_front}
 use Rattle.line.specs.Frames.{trackless}
-use Rattle.line.specs.declared.frame.Frame.{Frame}
-use Rattle.line.proofs.Kept.{few_sections, placed, front_kept, home_kept}
+use Rattle.line.proofs.Kept.{placed, is_kept, home_kept}
 use Rattle.line.proofs.frame.Frame.front_moved.Goals as goal
+use Rattle.line.proofs.frame.Frame.front_moved.Goals.{then-train-blocks, else-train-blocks}
 
-home_few : (frame : Frame) (station : Station) → (levers_at (trackless frame) station).home ≤ 4
-home_few frame EndA = home_kept frame.at_a frame.levers_a
-home_few frame EndB = home_kept frame.at_b frame.levers_b
+pub overflow_add-result : goal.overflow_add-result
+overflow_add-result c =
+    let is = placed (blocks (trackless c.args.self.now)) c.args.train c.requires.kept in
+    omega (arith, is.ahead, c.blocks-2.ensures)
 
-pub front_on-requires : goal.front_on-requires
-front_on-requires c =
-    let frame = c.args.self.now in
-    let is = placed (blocks (trackless frame)) c.args.train c.requires.kept in
-    omega (arith, is.ahead, c.requires.going, (few_sections frame.laying frame.legal).0)
-
-pub returns : goal.returns
-returns c =
-    let frame = c.args.self.now in
-    record {
-      is = c.front_on.ensures;
-      kept = rw c.front_on.ensures
-          (front_kept (trackless frame) c.args.train c.requires.kept c.requires.going
-          (home_few frame (other_end c.args.train.from)));
-    }
+pub returns-clause-kept : goal.returns-clause-kept
+returns-clause-kept c =
+    let is = placed (blocks (trackless c.args.self.now)) c.args.train c.requires.kept in
+    let few : c.if-train-blocks.into ≤ 4 =
+    elim c.if-train-blocks.branch [
+      | then-train-blocks w ↦ omega (arith, w.into-is, home_kept w.levers.result w.levers.ensures.kept)
+      | else-train-blocks w ↦ omega (arith, w.into-is)
+    ] in
+    is_kept _ (with_front c.args.train (c.args.train.front + 1) c.if-train-blocks.into) (record {
+      numbered = is.numbered;
+      behind = omega (arith, is.behind);
+      ahead = omega (arith, is.ahead, c.requires.going);
+      road = is.road;
+      into = few;
+    })
