@@ -10,3 +10,4 @@ mod Vacant
 mod PaintedBytes
 mod Working
 mod Histories
+mod Ending
