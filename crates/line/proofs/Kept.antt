@@ -22,7 +22,7 @@ use Rattle.rules.specs.declared.line.Station.TheVariants.{EndA, EndB}
 use Rattle.rules.specs.declared.line.Train.{Train}
 use Rattle.line.specs.Keeping.{blocks_laid, train_kept, trains_kept, entry_kept, plan_kept, laid_legally}
 use Rattle.line.specs.Keeping.{levers_kept}
-use Rattle.line.proofs.Planned.{legal_kept}
+use Rattle.line.proofs.Planned.{within_limits, legal_kept}
 
 -- what holds of each of a list holds of one of them, of the list with one of them another, of two lists joined, and of
 -- either part of a list
@@ -146,14 +146,11 @@ few_sections (Some laying) legal =
     let reach = and_parts _ (within 1 laying.blocks laying.reach) number.0 in
     let b = and_parts _ (within 1 4 (roads_of laying EndB)) reach.0 in
     let a = and_parts (within 1 16 laying.blocks) (within 1 4 (roads_of laying EndA)) b.0 in
-    (at_most 1 16 laying.blocks a.0, by_end a.1 b.1) where
-      at_most : (low high k : ℕ) → within low high k ≡ true → k ≤ high
-      at_most low high k h = leb-true k high (and_parts (leb low k) (leb k high) h).1
-
+    ((within_limits 1 16 laying.blocks a.0).1, by_end a.1 b.1) where
       by_end : within 1 4 (roads_of laying EndA) ≡ true → within 1 4 (roads_of laying EndB) ≡ true
           → (station : Station) → roads_of laying station ≤ 4
-      by_end at_a at_b EndA = at_most 1 4 (roads_of laying EndA) at_a
-      by_end at_a at_b EndB = at_most 1 4 (roads_of laying EndB) at_b
+      by_end at_a at_b EndA = (within_limits 1 4 (roads_of laying EndA) at_a).1
+      by_end at_a at_b EndB = (within_limits 1 4 (roads_of laying EndB) at_b).1
 
 pub home_kept : (levers : Levers) → levers_kept levers ≡ true → levers.home ≤ 4
 home_kept levers kept =

@@ -8,8 +8,8 @@ use Rattle.rules.specs.Table.{within}
 use Rattle.rules.specs.declared.line.PlanEntry.{PlanEntry}
 use Rattle.line.specs.Keeping.{entry_kept}
 
-at_least : (low high n : ℕ) → within low high n ≡ true → (low ≤ n) × (n ≤ high)
-at_least low high n h =
+pub within_limits : (low high n : ℕ) → within low high n ≡ true → (low ≤ n) × (n ≤ high)
+within_limits low high n h =
     let both = and_parts (leb low n) (leb n high) h in
     (leb-true low n both.0, leb-true n high both.1)
 
@@ -19,7 +19,7 @@ legal_kept [] all = refl
 legal_kept (entry ∷ plan) all =
     let both = and_parts (legal_entry entry) (legal_entries plan) all in
     let limits = and_parts (within 1 9999 entry.name) (within 100 9999 entry.metres) both.0 in
-    let name = at_least 1 9999 entry.name limits.0 in
-    let metres = at_least 100 9999 entry.metres limits.1 in
+    let name = within_limits 1 9999 entry.name limits.0 in
+    let metres = within_limits 100 9999 entry.metres limits.1 in
     and_from _ _ (and_from _ _ (lt-ltb 0 entry.name (omega (arith, name.0))) (le-leb _ _ metres.1))
     (legal_kept plan both.1)
