@@ -1,8 +1,6 @@
-use Rattle.std.proofs.Common.{rules}
 use Rattle.std.proofs.lemmas.Result.{err_from_is_err_and}
 use Rattle.line.specs.Frames.{trackless}
-use Rattle.line.proofs.Running.{not_running, is_running}
-use Rattle.line.proofs.Kept.{rear_kept}
+use Rattle.line.proofs.Running.{not_running}
 use Rattle.line.proofs.frame.Frame.check_follow.Goals as goal
 
 pub returns-in_err-index-clause-row : goal.returns-in_err-index-clause-row
@@ -10,12 +8,3 @@ returns-in_err-index-clause-row c =
     let p = err_from_is_err_and c.from_residual.result c.from_residual.ensures.1 in
     rw (p.1, p.2) (not_running (trackless c.args.self.now) c.args.number _ _ _ c.in_err-index.ensures.row)
 
-pub returns-clause-row : goal.returns-clause-row
-returns-clause-row c =
-    let met = is_running (trackless c.args.self.now) c.args.number _ _ c.in_ok-index.ensures.row in
-    search rules
-
-pub returns-clause-kept : goal.returns-clause-kept
-returns-clause-kept c =
-    rw c.rear_moved.ensures
-    (rear_kept (trackless c.args.self.now) _ c.in_ok-index.ensures.kept c.if-train.false)
