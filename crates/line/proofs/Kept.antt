@@ -1,40 +1,31 @@
 -- What a line keeps to is kept as its trains change.
-use Rattle.std.proofs.Common.{◌≡◌, ℕ, ◌+◌, ◌<◌, ◌≤◌, Bool, true, false, not, ◌||◌, eqb, ltb, leb, List, []}
-use Rattle.std.proofs.Common.{◌∷◌, ◌++◌, length, get_or, take, drop, set, is_some, Some, None, Option, unwrap_or}
+use Rattle.std.proofs.Common.{◌≡◌, ℕ, ◌+◌, ◌<◌, ◌≤◌, Bool, true, ◌||◌, eqb, List}
+use Rattle.std.proofs.Common.{◌++◌, length, take, drop, set, is_some, Some, None, Option, unwrap_or}
 use Rattle.std.proofs.Common.{refl, ◌∙◌, inl, inr, arith}
 use Rattle.std.specs.List.{All, list_all}
 use Rattle.std.proofs.lemmas.List.{length-set}
-use Rattle.std.proofs.lemmas.List.Elements.{All-get_or, All-set, All-take, All-drop}
+use Rattle.std.proofs.lemmas.List.Elements.{All-set, All-take, All-drop}
 use Rattle.std.proofs.lemmas.List.Folds.{list_all-append}
 use Rattle.std.proofs.lemmas.List.Sums.{AllPass-from_list_all, list_all-from_AllPass}
-use Rattle.std.proofs.lemmas.Bool.{and_parts, and_from, or_cases, or_left, eqb-true, leb-true, le-leb, cond_both}
-use Rattle.std.proofs.lemmas.Bool.{both_ways}
-use Rattle.rules.specs.Calls.{rear_moved, standing, legal_laying, legal_plan, legal_entries, names_differ}
+use Rattle.std.proofs.lemmas.Bool.{and_parts, and_from, or_cases, or_left, eqb-true}
+use Rattle.rules.specs.Calls.{legal_laying, legal_plan, legal_entries, names_differ}
 use Rattle.rules.specs.Lines.{Line, blocks, roads, roads_of, no_laying}
-use Rattle.rules.specs.Stations.{other_end}
 use Rattle.rules.specs.Table.{within}
-use Rattle.promises.proofs.Moves.{with_rear}
 use Rattle.rules.specs.declared.line.Laying.{Laying}
-use Rattle.rules.specs.declared.line.Levers.{Levers}
 use Rattle.rules.specs.declared.line.PlanEntry.{PlanEntry}
 use Rattle.rules.specs.declared.line.Station.{Station}
 use Rattle.rules.specs.declared.line.Station.TheVariants.{EndA, EndB}
 use Rattle.rules.specs.declared.line.Train.{Train}
 use Rattle.line.specs.Keeping.{blocks_laid, train_kept, trains_kept, entry_kept, plan_kept, laid_legally}
-use Rattle.line.specs.Keeping.{levers_kept}
 use Rattle.line.proofs.Planned.{within_limits, legal_kept}
 
--- what holds of each of a list holds of one of them, of the list with one of them another, of two lists joined, and of
--- either part of a list
+-- what holds of each of a list holds of the list with one of them another, of two lists joined, and of either part
 module _ {X : Type 0} (p : X → Bool) (xs : List X) (all : list_all p xs ≡ true) where
   abbrev passes : X → Type 0
   passes x = p x ≡ true
 
   abbrev each : All passes xs
   each = AllPass-from_list_all p xs all
-
-  pub each_at : (i : ℕ) (d : X) → i < length xs → p (get_or xs i d) ≡ true
-  each_at i d within = All-get_or passes xs i d within each
 
   each_set : (i : ℕ) (y : X) → p y ≡ true → list_all p (set xs i y) ≡ true
   each_set i y new = list_all-from_AllPass p _ (All-set passes xs i y new each)
@@ -46,7 +37,7 @@ module _ {X : Type 0} (p : X → Bool) (xs : List X) (all : list_all p xs ≡ tr
   each_part n =
       (list_all-from_AllPass p _ (All-take passes n xs each), list_all-from_AllPass p _ (All-drop passes n xs each))
 
--- trains of a line, one of them another, one more, one less
+-- trains of a line, one of them another, one less
 module _ (laying : Option Laying) (trains : List Train) (kept : trains_kept laying trains ≡ true) where
   abbrev n : ℕ
   n = blocks_laid laying
@@ -54,18 +45,9 @@ module _ (laying : Option Laying) (trains : List Train) (kept : trains_kept layi
   parts : ((is_some laying || eqb (length trains) 0) ≡ true) × (list_all (train_kept n) trains ≡ true)
   parts = and_parts (is_some laying || eqb (length trains) 0) (list_all (train_kept n) trains) kept
 
-  pub train_kept_at : (i : ℕ) (d : Train) → i < length trains → train_kept n (get_or trains i d) ≡ true
-  train_kept_at i d within = each_at (train_kept n) trains parts.1 i d within
-
   pub kept_put : (i : ℕ) (train : Train) → train_kept n train ≡ true → trains_kept laying (set trains i train) ≡ true
   kept_put i train new =
       and_from _ _ (rw (length-set trains i train) parts.0) (each_set (train_kept n) trains parts.1 i train new)
-
-  pub kept_pushed : (train : Train) → is_some laying ≡ true → train_kept n train ≡ true
-      → trains_kept laying (trains ++ train ∷ []) ≡ true
-  kept_pushed train laid new =
-      and_from _ _ (or_left _ _ laid)
-      (each_join (train_kept n) trains parts.1 (train ∷ []) (and_from _ _ new refl))
 
   pub kept_removed : (i : ℕ) → i < length trains → trains_kept laying (take i trains ++ drop (i + 1) trains) ≡ true
   kept_removed i within =
@@ -75,55 +57,6 @@ module _ (laying : Option Laying) (trains : List Train) (kept : trains_kept layi
       ])
       (each_join (train_kept n) (take i trains) (each_part (train_kept n) trains parts.1 i).0 (drop (i + 1) trains)
       (each_part (train_kept n) trains parts.1 (i + 1)).1)
-
--- the limits of one train, taken apart and put together
-pub record Placed (n : ℕ) (train : Train) : Type 0 where
-  pub numbered : ltb 0 train.number ≡ true
-  pub behind : train.rear ≤ train.front
-  pub ahead : train.front ≤ n + 1
-  pub road : train.road ≤ 4
-  pub into : train.into ≤ 4
-
-pub placed : (n : ℕ) (train : Train) → train_kept n train ≡ true → Placed n train
-placed n train kept =
-    let a = and_parts _ (leb train.into 4) kept in
-    let b = and_parts _ (leb train.road 4) a.0 in
-    let d = and_parts _ (leb train.front (n + 1)) b.0 in
-    let e = and_parts (ltb 0 train.number) (leb train.rear train.front) d.0 in
-    record {
-      numbered = e.0;
-      behind = leb-true _ _ e.1;
-      ahead = leb-true _ _ d.1;
-      road = leb-true _ _ b.1;
-      into = leb-true _ _ a.1;
-    }
-
-pub is_kept : (n : ℕ) (train : Train) → Placed n train → train_kept n train ≡ true
-is_kept n train is =
-    and_from _ _ (and_from _ _ (and_from _ _ (and_from _ _ is.numbered (le-leb _ _ is.behind))
-    (le-leb _ _ is.ahead)) (le-leb _ _ is.road)) (le-leb _ _ is.into)
-
-pub rear_kept : (line : Line) (train : Train) → train_kept (blocks line) train ≡ true
-    → (train.rear ≡ train.front → ⊥) → train_kept (blocks line) (rear_moved line train) ≡ true
-rear_kept line train kept apart =
-    let is = placed (blocks line) train kept in
-    let in_road = standing train.number train.axles (other_end train.from) train.into in
-    let on = with_rear train (train.rear + 1) in
-    cond_both (eqb train.rear (blocks line)) in_road on (λ t. train_kept (blocks line) t ≡ true)
-    (λ _. is_kept (blocks line) in_road (record {
-      numbered = is.numbered;
-      behind = omega arith;
-      ahead = omega arith;
-      road = is.into;
-      into = omega arith;
-    }))
-    (λ _. is_kept (blocks line) on (record {
-      numbered = is.numbered;
-      behind = omega (arith, is.behind, apart);
-      ahead = is.ahead;
-      road = is.road;
-      into = is.into;
-    }))
 
 -- the plan has an entry for each block, and every entry keeps to its limits
 pub plan_parts : (line : Line) → plan_kept line.laying line.plan ≡ true
@@ -151,19 +84,6 @@ few_sections (Some laying) legal =
           → (station : Station) → roads_of laying station ≤ 4
       by_end at_a at_b EndA = (within_limits 1 4 (roads_of laying EndA) at_a).1
       by_end at_a at_b EndB = (within_limits 1 4 (roads_of laying EndB) at_b).1
-
-pub home_kept : (levers : Levers) → levers_kept levers ≡ true → levers.home ≤ 4
-home_kept levers kept =
-    leb-true levers.home 4 (and_parts (leb levers.starter 4) (leb levers.home 4) kept).1
-
--- a bare line has no trains, so that they fit any laying
-pub no_trains_kept : (old : Option Laying) (laying : Laying) (trains : List Train) → not (is_some old) ≡ true
-    → trains_kept old trains ≡ true → list_all (train_kept laying.blocks) trains ≡ true
-no_trains_kept None laying [] bare kept = refl
-no_trains_kept None laying (train ∷ trains) bare kept =
-    let none = (and_parts (eqb (length (train ∷ trains)) 0) (list_all (train_kept 0) (train ∷ trains)) kept).0 in
-    absurd (omega (arith, eqb-true (length (train ∷ trains)) 0 none))
-no_trains_kept (Some old) laying trains bare kept = absurd (both_ways false refl bare)
 
 -- a legal plan is short, and is one that a line keeps
 pub plan_of_laying : (laying : Laying) (plan : List PlanEntry) → legal_laying laying ≡ true

@@ -7,4 +7,3 @@ pub returns-in_err-index-clause-row : goal.returns-in_err-index-clause-row
 returns-in_err-index-clause-row c =
     let p = err_from_is_err_and c.from_residual.result c.from_residual.ensures.1 in
     rw (p.1, p.2) (not_running (trackless c.args.self.now) c.args.number _ _ _ c.in_err-index.ensures.row)
-
