@@ -1,6 +1,6 @@
 -- What a line keeps to is kept as its trains change.
-use Rattle.std.proofs.Common.{◌≡◌, ℕ, ◌+◌, ◌<◌, ◌≤◌, Bool, true, ◌||◌, eqb, List}
-use Rattle.std.proofs.Common.{◌++◌, length, take, drop, set, is_some, Some, None, Option, unwrap_or}
+use Rattle.std.proofs.Common.{◌≡◌, ℕ, ◌+◌, ◌<◌, Bool, true, ◌||◌, eqb, List}
+use Rattle.std.proofs.Common.{◌++◌, length, take, drop, set, is_some, Some, Option}
 use Rattle.std.proofs.Common.{refl, ◌∙◌, inl, inr, arith}
 use Rattle.std.specs.List.{All, list_all}
 use Rattle.std.proofs.lemmas.List.{length-set}
@@ -8,16 +8,15 @@ use Rattle.std.proofs.lemmas.List.Elements.{All-set, All-take, All-drop}
 use Rattle.std.proofs.lemmas.List.Folds.{list_all-append}
 use Rattle.std.proofs.lemmas.List.Sums.{AllPass-from_list_all, list_all-from_AllPass}
 use Rattle.std.proofs.lemmas.Bool.{and_parts, and_from, or_cases, or_left, eqb-true}
-use Rattle.rules.specs.Calls.{legal_laying, legal_plan, legal_entries, names_differ}
-use Rattle.rules.specs.Lines.{Line, blocks, roads, roads_of, no_laying}
+use Rattle.rules.specs.Calls.{legal_plan, legal_entries, names_differ}
+use Rattle.rules.specs.Lines.{Line, blocks, roads, roads_of}
 use Rattle.rules.specs.Table.{within}
 use Rattle.rules.specs.declared.line.Laying.{Laying}
 use Rattle.rules.specs.declared.line.PlanEntry.{PlanEntry}
-use Rattle.rules.specs.declared.line.Station.{Station}
 use Rattle.rules.specs.declared.line.Station.TheVariants.{EndA, EndB}
 use Rattle.rules.specs.declared.line.Train.{Train}
-use Rattle.line.specs.Keeping.{blocks_laid, train_kept, trains_kept, entry_kept, plan_kept, laid_legally}
-use Rattle.line.proofs.Planned.{within_limits, legal_kept}
+use Rattle.line.specs.Keeping.{blocks_laid, train_kept, trains_kept, entry_kept, plan_kept}
+use Rattle.line.proofs.Planned.{legal_kept}
 
 -- what holds of each of a list holds of the list with one of them another, of two lists joined, and of either part
 module _ {X : Type 0} (p : X → Bool) (xs : List X) (all : list_all p xs ≡ true) where
@@ -66,33 +65,11 @@ plan_parts line kept =
     (list_all entry_kept line.plan) kept in
     (eqb-true _ _ both.0, both.1)
 
--- a line, laid or bare, has at most 16 blocks and 4 roads at a station
-pub few_sections : (laying : Option Laying) → laid_legally laying ≡ true
-    → ((unwrap_or laying no_laying).blocks ≤ 16)
-    × ((station : Station) → roads_of (unwrap_or laying no_laying) station ≤ 4)
-few_sections None legal = (omega arith, λ station. none station) where
-  none : (station : Station) → roads_of no_laying station ≤ 4
-  none EndA = omega arith
-  none EndB = omega arith
-few_sections (Some laying) legal =
-    let number = and_parts _ (within 1 9999 laying.number) legal in
-    let reach = and_parts _ (within 1 laying.blocks laying.reach) number.0 in
-    let b = and_parts _ (within 1 4 (roads_of laying EndB)) reach.0 in
-    let a = and_parts (within 1 16 laying.blocks) (within 1 4 (roads_of laying EndA)) b.0 in
-    ((within_limits 1 16 laying.blocks a.0).1, by_end a.1 b.1) where
-      by_end : within 1 4 (roads_of laying EndA) ≡ true → within 1 4 (roads_of laying EndB) ≡ true
-          → (station : Station) → roads_of laying station ≤ 4
-      by_end at_a at_b EndA = (within_limits 1 4 (roads_of laying EndA) at_a).1
-      by_end at_a at_b EndB = (within_limits 1 4 (roads_of laying EndB) at_b).1
-
--- a legal plan is short, and is one that a line keeps
-pub plan_of_laying : (laying : Laying) (plan : List PlanEntry) → legal_laying laying ≡ true
-    → legal_plan laying plan ≡ true
-    → (length plan ≤ 24) × (plan_kept (Some laying) plan ≡ true)
-plan_of_laying laying plan numbers entries =
-    let few = few_sections (Some laying) numbers in
+-- a legal plan is one that a line keeps
+pub plan_of_laying : (laying : Laying) (plan : List PlanEntry) → legal_plan laying plan ≡ true
+    → plan_kept (Some laying) plan ≡ true
+plan_of_laying laying plan entries =
     let names = and_parts _ (names_differ plan) entries in
     let parts = and_parts (eqb (length plan) (laying.blocks + roads_of laying EndA + roads_of laying EndB))
     (legal_entries plan) names.0 in
-    let long = eqb-true (length plan) (laying.blocks + roads_of laying EndA + roads_of laying EndB) parts.0 in
-    (omega (arith, long, few.0, few.1 EndA, few.1 EndB), and_from _ _ parts.0 (legal_kept plan parts.1))
+    and_from _ _ parts.0 (legal_kept plan parts.1)
