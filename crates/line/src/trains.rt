@@ -11,6 +11,7 @@ ghost use Rattle.line.specs.Worlds.{world};
 use crate::Line;
 use crate::frame::trains::{Move, legal_card, standing};
 use lamps::Lamps;
+use rules::aspect::Aspect;
 use rules::line::Train;
 use rules::refusal::Refusal;
 use track::Track;
@@ -113,7 +114,7 @@ impl<T: Track, L: Lamps> Line<T, L> {
     {
         let aspect = self.aspect_at(train.from, train.front + 1);
         let starter = self.frame.levers(train.from).starter;
-        aspect.number() == 0 || train.front == 0 && starter != train.road
+        aspect == Aspect::Stop || train.front == 0 && starter != train.road
     }
 
     // Whether a train's front may go on, and what that comes to.

@@ -13,7 +13,7 @@ impl Frame {
         ensures is { result ≡ within 1 (blocks (trackless self.now)) block }
         ensures few { result ≡ true → block ≤ 16 }
     {
-        1 <= block && block <= self.blocks()
+        (1..=self.blocks()).contains(&block)
     }
 
     // Whether a call may be about a block: the line is laid, and has it.
