@@ -1,7 +1,7 @@
 mod Ranges
 mod Searching
-mod Asking
 mod Exits
+mod Running
 mod Clear
 mod Kept
 mod Metres
@@ -10,3 +10,4 @@ mod Planned
 mod PaintedBytes
 mod Histories
 mod Working
+mod Ending

@@ -1,6 +1,6 @@
 pub mod Keeping
 pub mod Frames
-pub mod Holding
+pub mod Levers
 pub mod Moves
 pub mod Parts
 pub mod Asked

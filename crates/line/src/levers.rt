@@ -6,7 +6,7 @@ ghost use Rattle.line.specs.Works.{Works};
 ghost use Rattle.line.specs.Worlds.{world};
 
 use crate::Line;
-use crate::places::station_of;
+use crate::frame::levers::Lever;
 use lamps::Lamps;
 use rules::line::Station;
 use rules::refusal::Refusal;
@@ -26,8 +26,8 @@ impl<T: Track, L: Lamps> Line<T, L> {
     pub fn starter(&mut self, station: u32, road: u32) -> Result<(), Refusal>
         ensures { Works L.shows T.mark T.cells self.old (starter station road) tt result self.new }
     {
-        let station = self.frame.check_starter(station, road)?;
-        self.frame.put_starter(station, road);
+        let road = self.frame.check_lever(Lever::Starter, station, road)?;
+        self.frame.put_lever(Lever::Starter, road);
         Ok(())
     }
 
@@ -35,8 +35,8 @@ impl<T: Track, L: Lamps> Line<T, L> {
     pub fn home(&mut self, station: u32, road: u32) -> Result<(), Refusal>
         ensures { Works L.shows T.mark T.cells self.old (home station road) tt result self.new }
     {
-        let station = self.frame.check_home(station, road)?;
-        self.frame.put_home(station, road);
+        let road = self.frame.check_lever(Lever::Home, station, road)?;
+        self.frame.put_lever(Lever::Home, road);
         Ok(())
     }
 
@@ -46,12 +46,7 @@ impl<T: Track, L: Lamps> Line<T, L> {
             (verdict (L.shows self.now.lamps) (world T.cells self.now) (direction station send))
             (some_station station) }
     {
-        if !self.frame.is_laid() {
-            return Err(Refusal::NotLaid);
-        }
-        let Some(station) = station_of(station) else {
-            return Err(Refusal::NoStation);
-        };
+        let station = self.frame.station(station)?;
         let levers = self.frame.levers(station);
         if levers.sends == send {
             return Err(Refusal::ThereAlready);

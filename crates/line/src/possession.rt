@@ -29,12 +29,7 @@ impl<T: Track, L: Lamps> Line<T, L> {
             (verdict (L.shows self.now.lamps) (world T.cells self.now) (close block)) tt }
         ensures block { OnOk result ((1 ≤ block) × (block ≤ 16)) }
     {
-        if !self.frame.is_laid() {
-            return Err(Refusal::NotLaid);
-        }
-        if !self.frame.is_block(block) {
-            return Err(Refusal::NoSection);
-        }
+        self.frame.check_block(block)?;
         if !self.is_clear(block) {
             return Err(Refusal::NotClear);
         }

@@ -12,7 +12,7 @@ ghost use Rattle.line.specs.Worlds.{world};
 
 use crate::Line;
 use crate::frame::questions::Signal;
-use crate::places::{place_from, road_section};
+use crate::places::place_from;
 use lamps::Lamps;
 use rules::aspect::Aspect;
 use rules::detection::SectionState;
@@ -105,11 +105,10 @@ impl<T: Track, L: Lamps> Line<T, L> {
     fn home_count(&self, station: Station) -> u32
         ensures { result ≡ home_count (world T.cells self.now) station }
     {
-        let far = station.other();
-        let home = self.frame.levers(far).home;
+        let home = self.frame.home_road(station.other());
         let cleared = self.frame.levers(station).sends
-            && home != 0
-            && self.is_clear(road_section(far, home));
+            && home.number != 0
+            && self.is_clear(home.section());
         u32::from(cleared)
     }
 
@@ -141,7 +140,7 @@ impl<T: Track, L: Lamps> Line<T, L> {
             return 0;
         }
         let far = at.station.other();
-        self.frame.road_metres(far, self.frame.levers(far).home)
+        self.frame.road_metres(self.frame.home_road(far))
     }
 
     pub(crate) fn aspect_at(&self, at: Signal) -> Aspect

@@ -11,8 +11,8 @@ ghost use Rattle.line.specs.Worlds.{world};
 use crate::Line;
 use crate::frame::questions::Signal;
 use crate::frame::trains::{Move, legal_card, standing};
-use crate::places::{road_section, station_of};
 use lamps::Lamps;
+use rules::aspect::Aspect;
 use rules::line::Train;
 use rules::refusal::Refusal;
 use track::Track;
@@ -32,8 +32,8 @@ impl<T: Track, L: Lamps> Line<T, L> {
         if self.frame.is_full() {
             return Err(Refusal::NotClear);
         }
-        self.track
-            .enter(road_section(train.from, train.road), train.axles)?;
+        let section = self.frame.section_of(train, 0);
+        self.track.enter(section, train.axles)?;
         self.frame.push_train(train);
         Ok(())
     }
@@ -83,16 +83,8 @@ impl<T: Track, L: Lamps> Line<T, L> {
         ensures kept { IfOk result (λ train. train_kept (blocks (world T.cells self.now)) train ≡ true) }
         ensures laid { OnOk result (bare (world T.cells self.now) ≡ false) }
     {
-        if !self.frame.is_laid() {
-            return Err(Refusal::NotLaid);
-        }
-        let Some(station) = station_of(station) else {
-            return Err(Refusal::NoStation);
-        };
-        if road == 0 {
-            return Err(Refusal::NoRoad);
-        }
-        if self.frame.roads(station) < road {
+        let station = self.frame.station(station)?;
+        if road == 0 || self.frame.roads(station) < road {
             return Err(Refusal::NoRoad);
         }
         if !legal_card(number, axles) {
@@ -101,10 +93,11 @@ impl<T: Track, L: Lamps> Line<T, L> {
         if self.frame.find(number).is_some() {
             return Err(Refusal::NumberInUse);
         }
-        if !self.is_clear(road_section(station, road)) {
+        let train = standing(number, axles, station, road);
+        if !self.is_clear(self.frame.section_of(train, 0)) {
             return Err(Refusal::NotClear);
         }
-        Ok(standing(number, axles, station, road))
+        Ok(train)
     }
 
     // The signal ahead shows stop, or the train stands in a road that the starter is not reversed for.
@@ -117,7 +110,7 @@ impl<T: Track, L: Lamps> Line<T, L> {
             distance: train.front + 1,
         });
         let starter = self.frame.levers(train.from).starter;
-        aspect.number() == 0 || train.front == 0 && starter != train.road
+        aspect == Aspect::Stop || train.front == 0 && starter != train.road
     }
 
     // Whether a train's front may go on, and what that comes to.
@@ -129,13 +122,7 @@ impl<T: Track, L: Lamps> Line<T, L> {
         ensures kept { IfOk result
             (λ move. train_kept (blocks (world T.cells self.now)) move.train ≡ true) }
     {
-        if !self.frame.is_laid() {
-            return Err(Refusal::NotLaid);
-        }
-        let Some(index) = self.frame.find(number) else {
-            return Err(Refusal::NoTrain);
-        };
-        let train = self.frame.train(index);
+        let (index, train) = self.frame.running(number)?;
         if train.front == self.frame.blocks() + 1 {
             return Err(Refusal::RoadsEnd);
         }

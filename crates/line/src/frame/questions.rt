@@ -10,7 +10,7 @@ ghost use Rattle.line.specs.Asked.{signal_at, section_named};
 ghost use Rattle.line.specs.Frames.{trackless, nothing_shown};
 
 use crate::frame::Frame;
-use crate::places::{is_road, road_section};
+use crate::places::Road;
 use crate::search::search;
 use rules::line::Station;
 use rules::refusal::Refusal;
@@ -47,10 +47,7 @@ impl Frame {
             ≡ answer (verdict nothing_shown (trackless self.now) (ask_signal station place))
             (signal_at (trackless self.now) station place) }
     {
-        if !self.is_laid() {
-            return Err(Refusal::NotLaid);
-        }
-        let station = Station::try_from(station)?;
+        let station = self.station(station)?;
         if !self.has_signal(station, place) {
             return Err(Refusal::NoSection);
         }
@@ -65,8 +62,8 @@ impl Frame {
         ensures legal { result ≡ true → legal_section section ≡ true }
     {
         self.is_block(section)
-            || is_road(Station::EndA, self.roads(Station::EndA), section)
-            || is_road(Station::EndB, self.roads(Station::EndB), section)
+            || self.last_road(Station::EndA).reaches(section)
+            || self.last_road(Station::EndB).reaches(section)
     }
 
     pub(crate) fn check_in_use(&self, section: u32) -> Result<(), Refusal>
@@ -93,9 +90,9 @@ impl Frame {
         if index < blocks {
             index + 1
         } else if index < before_b {
-            road_section(Station::EndA, 1) + (index - blocks)
+            Road::first(Station::EndA).section() + (index - blocks)
         } else {
-            road_section(Station::EndB, 1) + (index - before_b)
+            Road::first(Station::EndB).section() + (index - before_b)
         }
     }
 

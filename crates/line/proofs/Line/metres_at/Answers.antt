@@ -16,6 +16,6 @@ returns g c =
     let line = world g.T.Track.cells c.args.self.now in
     let far : blocks line < c.args.at.distance = omega (arith, c.blocks-2.ensures.is) in
     c.road_metres.ensures
-    ∙ rw (c.levers.ensures.is, c.other-far.ensures)
+    ∙ rw (c.home_road.ensures.station, c.home_road.ensures.number, c.other-far.ensures)
     (sym (metres_before_home line c.args.at.station c.args.at.distance far
     (λ none. c.if-home_count-eq0.false (c.home_count.ensures ∙ none))))
