@@ -1,6 +1,8 @@
 -- A call of a train that is not there, or of a bare line: the two rows that it meets first.
-use Rattle.std.proofs.Common.{◌≡◌, ℕ, Bool, true, false, not, cond, [], ◌∷◌, is_some, Some, None, Ok, Err, Option}
-use Rattle.std.proofs.Common.{refl, ap, arith}
+use Rattle.std.proofs.Common.{◌≡◌, ℕ, Bool, true, false, not, cond, [], ◌∷◌, is_some, Some, None, Ok, Err}
+use Rattle.std.proofs.Common.{Option, Result, refl, ap, arith}
+use Rattle.std.specs.Result.{IsErrAnd}
+use Rattle.std.proofs.lemmas.Result.{err_from_is_err_and}
 use Rattle.rules.specs.Calls.{not_laid, no_train_of, train_index}
 use Rattle.rules.specs.Lines.{Line, bare}
 use Rattle.rules.specs.Table.{topmost, answer}
@@ -28,11 +30,14 @@ module _ (line : Line) (number : ℕ) where
   abbrev gone : Bool
   gone = not (is_some (train_index line number))
 
-  -- one of the two answers, whatever stands below
-  pub not_running : {R : Type 0} (below : Option Refusal) (value : R) (refusal : Refusal)
+  -- one of the two answers, whatever stands below, and is handed on
+  pub not_running : {R : Type 0} {result : Result R Refusal} {refusal : Refusal} (below : Option Refusal) (value : R)
+      → IsErrAnd result (λ e. e ≡ refusal)
       → Err refusal ≡ answer (topmost (not_laid line ∷ no_train_of line number ∷ [])) (running line number)
-      → Err refusal ≡ answer (rows_met (bare line) gone below) value
-  not_running below value refusal h = one_met (bare line) gone below (running line number) value refusal h
+      → result ≡ answer (rows_met (bare line) gone below) value
+  not_running {result = result} {refusal = refusal} below value handed h =
+      let p = err_from_is_err_and result handed in
+      rw (p.1, p.2) (one_met (bare line) gone below (running line number) value refusal h)
 
   -- or neither holds, and the train is there
   pub is_running : (index : ℕ) (train : Train)

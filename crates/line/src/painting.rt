@@ -53,9 +53,7 @@ impl<T: Track, L: Lamps> Line<T, L> {
             (verdict (L.shows self.now.lamps) (world T.cells self.now) (paint bytes)) tt }
         ensures long { OnOk result (66 ≤ bytes) }
     {
-        if !self.frame.is_laid() {
-            return Err(Refusal::NotLaid);
-        }
+        self.frame.laid()?;
         if bytes < PANEL_BYTES {
             return Err(Refusal::ShortPanel);
         }

@@ -15,7 +15,6 @@ use crate::frame::questions::Signal;
 use crate::places::place_from;
 use lamps::Lamps;
 use rules::aspect::Aspect;
-use rules::detection::SectionState;
 use rules::line::Station;
 use rules::refusal::Refusal;
 use track::Track;
@@ -36,7 +35,7 @@ impl<T: Track, L: Lamps> Line<T, L> {
         requires { legal_section section ≡ true }
         ensures { result ≡ (state_at (world T.cells self.now) section == 0) }
     {
-        matches!(self.track.state(section), Ok(SectionState::Vacant))
+        self.track.is_vacant(section)
     }
 
     // Vacant, and no slip out on it.

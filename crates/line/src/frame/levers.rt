@@ -84,7 +84,7 @@ impl Frame {
         }
     }
 
-    // Whether a lever may be put there, at the station of that number.
+    // The road that a lever may be put for, 0 for normal, at the station of that number.
     pub(crate) fn check_lever(&self, lever: Lever, station: u32, road: u32) -> Result<Road, Refusal>
         ensures { station_and_road result ≡ answer
             (verdict nothing_shown (trackless self.now) (lever_call lever station road))

@@ -65,7 +65,7 @@ pub(crate) fn legal_plan(laying: Laying, plan: &[PlanEntry]) -> bool
     plan.len() == sections as usize && legal_entries(plan) && names_differ(plan)
 }
 
-// The plan copied into memory that is there. One entry at a time: what copies a whole slice into a Vec may ask for memory.
+// The plan copied into memory that is there, entry by entry: what copies a whole slice into a Vec may ask for memory.
 fn copy(into: &mut Vec<PlanEntry>, plan: &[PlanEntry])
     requires { length plan.now ≤ vec_capacity into.old }
     ensures items { into.new.items ≡ plan.now }

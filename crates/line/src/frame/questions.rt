@@ -10,7 +10,7 @@ ghost use Rattle.line.specs.Asked.{signal_at, section_named};
 ghost use Rattle.line.specs.Frames.{trackless, nothing_shown};
 
 use crate::frame::Frame;
-use crate::places::Road;
+use crate::places::{Road, place_from};
 use crate::search::search;
 use rules::line::Station;
 use rules::refusal::Refusal;
@@ -36,10 +36,7 @@ impl Frame {
     pub(crate) fn distance_to(&self, station: Station, place: u32) -> u32
         ensures { result ≡ distance_to (trackless self.now) station place }
     {
-        match station {
-            Station::EndA => place,
-            Station::EndB => (self.blocks() + 1).saturating_sub(place),
-        }
+        place_from(self.blocks(), station, place)
     }
 
     pub(crate) fn check_signal(&self, station: u32, place: u32) -> Result<Signal, Refusal>
@@ -71,9 +68,7 @@ impl Frame {
             (not_laid (trackless self.now) ∷ not_in_use (trackless self.now) section ∷ [])) }
         ensures legal { OnOk result (legal_section section ≡ true) }
     {
-        if !self.is_laid() {
-            return Err(Refusal::NotLaid);
-        }
+        self.laid()?;
         if !self.is_in_use(section) {
             return Err(Refusal::NoSection);
         }
@@ -102,9 +97,7 @@ impl Frame {
             (verdict nothing_shown (trackless self.now) (ask_name name))
             (section_named (trackless self.now) name) }
     {
-        if !self.is_laid() {
-            return Err(Refusal::NotLaid);
-        }
+        self.laid()?;
         let index = search(self.plan.as_slice(), name).ok_or(Refusal::NoSection)?;
         Ok(self.entry_section(index as u32))
     }

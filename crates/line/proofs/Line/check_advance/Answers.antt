@@ -1,5 +1,4 @@
 use Rattle.std.proofs.Common.{rules, sym, refl}
-use Rattle.std.proofs.lemmas.Result.{err_from_is_err_and}
 use Rattle.std.proofs.lemmas.Bool.{ne_eqb}
 use Rattle.line.specs.Worlds.{world}
 use Rattle.line.proofs.Running.{not_running, is_running}
@@ -7,8 +6,8 @@ use Rattle.line.proofs.Line.check_advance.Goals as goal
 
 pub returns-in_err-index-clause-row : goal.returns-in_err-index-clause-row
 returns-in_err-index-clause-row g c =
-    let p = err_from_is_err_and c.from_residual.result c.from_residual.ensures.1 in
-    rw (p.1, p.2) (not_running (world g.T.Track.cells c.args.self.now) c.args.number _ _ _ c.in_err-index.ensures.row)
+    not_running (world g.T.Track.cells c.args.self.now) c.args.number _ _ c.from_residual.ensures.1
+    c.in_err-index.ensures.row
 
 pub returns-then-train-blocks-clause-row : goal.returns-then-train-blocks-clause-row
 returns-then-train-blocks-clause-row g c =

@@ -12,6 +12,8 @@ returns-in_err-road g c = record {
 pub returns : goal.returns
 returns g c = record {
   ends = ends_carried_out (g.met.L.Lamps.stops _) (g.met.L.Lamps.proceeds _) g.met.T.Track.marked
-      _ _ c.in_ok-road.ensures (λ is. rw (ap (λ r. r.0) is, ap (λ r. r.1) is) at (c.put_lever.ensures (g.T.Track.cells c.args.self.now.track)));
+      _ _ c.in_ok-road.ensures
+      (λ is. rw (ap (λ r. r.0) is, ap (λ r. r.1) is) at
+      (c.put_lever.ensures (g.T.Track.cells c.args.self.now.track)));
   lamps = refl;
 }
