@@ -131,9 +131,7 @@ impl<T: Track, L: Lamps> Line<T, L> {
         ensures { result ≡ metres_at (world T.cells self.now) at.station at.distance }
     {
         if at.distance <= self.frame.blocks() {
-            return self
-                .frame
-                .block_metres(at.station, at.distance, self.count_at(at));
+            return self.frame.block_metres(at, self.count_at(at));
         }
         if self.home_count(at.station) == 0 {
             return 0;

@@ -9,6 +9,7 @@ ghost use Rattle.line.specs.Frames.{trackless, Becomes};
 ghost use Rattle.line.specs.Keeping.{entry_kept};
 ghost use Rattle.line.specs.Parts.{part_start};
 
+use crate::frame::questions::Signal;
 use crate::frame::{Frame, MOST_BLOCKS};
 use crate::places::Road;
 use rules::line::{Laying, PlanEntry, Station};
@@ -101,25 +102,23 @@ impl Frame {
         self.laying = Some(laying);
     }
 
-    // Where the entries of so many blocks from a distance on begin in the plan.
-    fn part_start(&self, station: Station, distance: u32, count: u32) -> usize
-        requires low { 1 ≤ distance }
-        requires high { count + distance ≤ blocks (trackless self.now) + 1 }
-        ensures { result ≡ part_start (blocks (trackless self.now)) station distance count }
+    // Where the entries of so many blocks from a signal's on begin in the plan.
+    fn part_start(&self, at: Signal, count: u32) -> usize
+        requires { count + at.distance ≤ blocks (trackless self.now) + 1 }
+        ensures { result ≡ part_start (blocks (trackless self.now)) at.station at.distance count }
     {
-        match station {
-            Station::EndA => (distance - 1) as usize,
-            Station::EndB => (self.blocks() + 1 - distance - count) as usize,
+        match at.station {
+            Station::EndA => (at.distance - 1) as usize,
+            Station::EndB => (self.blocks() + 1 - at.distance - count) as usize,
         }
     }
 
-    // The metres of so many blocks from a distance on.
-    pub(crate) fn block_metres(&self, station: Station, distance: u32, count: u32) -> u32
-        requires low { 1 ≤ distance }
-        requires high { count + distance ≤ blocks (trackless self.now) + 1 }
-        ensures { result ≡ metres_from (trackless self.now) station distance count }
+    // The metres of so many blocks from a signal's on.
+    pub(crate) fn block_metres(&self, at: Signal, count: u32) -> u32
+        requires { count + at.distance ≤ blocks (trackless self.now) + 1 }
+        ensures { result ≡ metres_from (trackless self.now) at.station at.distance count }
     {
-        let start = self.part_start(station, distance, count);
+        let start = self.part_start(at, count);
         let plan = self.plan.as_slice();
         sum_metres(&plan[start..start + count as usize])
     }

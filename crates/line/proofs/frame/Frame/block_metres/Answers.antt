@@ -21,5 +21,5 @@ returns c =
     let long = (plan_parts line c.args.self.now.planned).0 in
     c.sum_metres.ensures
     ∙ rw (count, c.as_slice-plan.ensures.value, c.part_start-start.ensures)
-    (sym (metres_of_part line c.args.station c.args.distance c.args.count c.requires.low c.requires.high
+    (sym (metres_of_part line c.args.at.station c.args.at.distance c.args.count c.args.at.ahead c.requires
     (omega (arith, long))))
