@@ -13,14 +13,6 @@ pub fn tell<T: Track>(track: &mut T, call: TrackCall) -> TrackAnswer
     ensures after { T.cells track.new ≡ track_after T.mark (T.cells track.old) call }
     ensures history { GoesOn T.mark (T.cells track.old) call (T.cells track.new) }
 {
-    pass_on(track, call)
-}
-
-// The same without the history, which would otherwise be owed once an arm.
-fn pass_on<T: Track>(track: &mut T, call: TrackCall) -> TrackAnswer
-    ensures answer { result ≡ track_answer T.mark (T.cells track.old) call }
-    ensures after { T.cells track.new ≡ track_after T.mark (T.cells track.old) call }
-{
     match call {
         TrackCall::State { section } => track.state(section).into(),
         TrackCall::Enter { section, axles } => track.enter(section, axles).into(),
