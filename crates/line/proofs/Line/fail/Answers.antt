@@ -5,7 +5,7 @@ use Rattle.line.specs.Frames.{with_cells}
 use Rattle.line.proofs.Histories.{ends_so}
 use Rattle.line.proofs.Exits.{passed, ends_refused, passed_on}
 use Rattle.line.specs.Worlds.{world}
-use Rattle.line.proofs.Passing.{not_passed_on, the_track_decides}
+use Rattle.line.proofs.Passing.{not_passed_on, the_track_decides, told_of}
 use Rattle.line.proofs.Line.fail.Goals as goal
 
 pub returns-in_err-section : goal.returns-in_err-section
@@ -21,12 +21,12 @@ returns-in_err-section g c =
 pub returns : goal.returns
 returns g c =
     let asked = passed _ _ _ c.in_ok-section.ensures in
+    let told = told_of Fail asked.1 c.fail.ensures in
     record {
       ends = ends_so (g.met.L.Lamps.stops _) (g.met.L.Lamps.proceeds _) g.met.T.Track.marked
           (passed_on _ _ _ _ (Fail c.args.section)
           (the_track_decides (world g.T.Track.cells c.args.self.now) c.args.section true asked.0
           (rw asked.1 at c.in_ok-section.section.legal))
-          (λ cells. with_cells cells c.args.self.now.frame) refl refl _ _ (rw asked.1 at c.fail.ensures.answer)
-          (rw asked.1 at c.fail.ensures.after));
+          (λ cells. with_cells cells c.args.self.now.frame) refl refl _ _ told.answer told.after);
       lamps = refl;
     }
