@@ -69,7 +69,7 @@ impl<T: Track, L: Lamps> Line<T, L> {
     fn all_vacant(&self) -> bool
         ensures { result ≡ all_vacant (world T.cells self.now) 24 }
     {
-        (1..=LAST_SECTION).all(|section| self.is_vacant(section))
+        (1..=LAST_SECTION).all(|section| self.track.is_vacant(section))
     }
 
     // The section that bears a name in the plan.

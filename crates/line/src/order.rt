@@ -12,15 +12,15 @@ impl<T: Track, L: Lamps> Line<T, L> {
     pub fn fail(&mut self, section: u32) -> Result<(), Refusal>
         ensures { Works L.shows T.mark T.cells self.old (fail section) tt result self.new }
     {
-        self.frame.check_in_use(section)?;
-        self.track.fail(section)
+        let section = self.frame.check_in_use(section)?;
+        self.track.fail(section.number)
     }
 
     // The section is back in order; what it holds stays.
     pub fn mend(&mut self, section: u32) -> Result<(), Refusal>
         ensures { Works L.shows T.mark T.cells self.old (mend section) tt result self.new }
     {
-        self.frame.check_in_use(section)?;
-        self.track.mend(section)
+        let section = self.frame.check_in_use(section)?;
+        self.track.mend(section.number)
     }
 }

@@ -1,7 +1,6 @@
 // The 66 bytes of the lamp panel.
-ghost use Rattle.std.specs.Prelude.{◌≡◌, ◌<◌, ◌≤◌, true, ◌++◌, length, drop, OnOk};
+ghost use Rattle.std.specs.Prelude.{◌≡◌, ◌<◌, ◌≤◌, ◌++◌, length, drop, OnOk};
 ghost use Rattle.rules.specs.Calls.{paint, verdict};
-ghost use Rattle.rules.specs.Detection.{legal_section};
 ghost use Rattle.rules.specs.Panels.{section_byte, signal_byte, lock_lamp, panel_byte, panel};
 ghost use Rattle.rules.specs.Table.{answer, after};
 ghost use Rattle.line.specs.Worlds.{world};
@@ -87,14 +86,13 @@ impl<T: Track, L: Lamps> Line<T, L> {
     }
 
     fn section_byte(&self, section: u32) -> u8
-        requires { legal_section section ≡ true }
         ensures { result ≡ section_byte (world T.cells self.now) section }
     {
-        if !self.frame.is_in_use(section) {
+        let Some(section) = self.frame.in_use(section) else {
             return MISSING;
-        }
-        match self.track.state(section) {
-            Ok(SectionState::Vacant) if self.frame.closed_at(section) => CLOSED,
+        };
+        match self.track.state(section.number) {
+            Ok(SectionState::Vacant) if self.frame.closed_at(section.number) => CLOSED,
             Ok(state) => state.number(),
             Err(_) => MISSING,
         }

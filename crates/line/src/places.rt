@@ -22,6 +22,13 @@ pub(crate) fn place_from(blocks: u32, station: Station, distance: u32) -> u32
     }
 }
 
+// A section that every track has.
+#[derive(Clone, Copy)]
+pub(crate) struct Section {
+    pub(crate) number: u32,
+    ghost legal: { legal_section number ≡ true },
+}
+
 // A road of a station; its number is 0 where a lever or a train has none.
 #[derive(Clone, Copy)]
 pub(crate) struct Road {
@@ -38,21 +45,21 @@ impl Road {
         Road { station, number: 1 }
     }
 
-    pub(crate) fn section(self) -> u32
-        ensures { result ≡ road_section self.station self.number }
+    pub(crate) fn section(self) -> Section
+        ensures { result.number ≡ road_section self.station self.number }
     {
-        match self.station {
+        let number = match self.station {
             Station::EndA => BEFORE_ROADS_A + self.number,
             Station::EndB => BEFORE_ROADS_B + self.number,
-        }
+        };
+        Section { number }
     }
 
     // Whether a section is this road or one before it in the station.
     pub(crate) fn reaches(self, section: u32) -> bool
-        ensures is { result ≡ within (road_section self.station 1) (road_section self.station self.number) section }
-        ensures legal { result ≡ true → legal_section section ≡ true }
+        ensures { result ≡ within (road_section self.station 1) (road_section self.station self.number) section }
     {
         let first = Road::first(self.station);
-        (first.section()..=self.section()).contains(&section)
+        (first.section().number..=self.section().number).contains(&section)
     }
 }

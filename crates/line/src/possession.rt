@@ -7,6 +7,7 @@ ghost use Rattle.line.specs.Works.{Works};
 ghost use Rattle.line.specs.Worlds.{world};
 
 use crate::Line;
+use crate::places::Section;
 use crate::slip::Slip;
 use lamps::Lamps;
 use rules::refusal::Refusal;
@@ -30,7 +31,7 @@ impl<T: Track, L: Lamps> Line<T, L> {
         ensures block { OnOk result ((1 ≤ block) × (block ≤ 16)) }
     {
         self.frame.check_block(block)?;
-        if !self.is_clear(block) {
+        if !self.is_clear(Section { number: block }) {
             return Err(Refusal::NotClear);
         }
         Ok(())

@@ -1,8 +1,7 @@
 // What a signal has ahead of it, and what it shows. The trains are never asked.
-ghost use Rattle.std.specs.Prelude.{◌≡◌, ◌+◌, ◌-◌, ◌≤◌, true, ◌==◌};
+ghost use Rattle.std.specs.Prelude.{◌≡◌, ◌+◌, ◌-◌, ◌≤◌};
 ghost use Rattle.rules.specs.Calls.{all_clear, ask_signal, verdict};
-ghost use Rattle.rules.specs.Detection.{legal_section};
-ghost use Rattle.rules.specs.Lines.{clear, blocks, state_at};
+ghost use Rattle.rules.specs.Lines.{clear, blocks};
 ghost use Rattle.rules.specs.Signals.{run_ahead, starter_count, block_count, home_count};
 ghost use Rattle.rules.specs.Signals.{count_at, metres_at, aspect_at};
 ghost use Rattle.rules.specs.Stations.{place_from};
@@ -12,7 +11,7 @@ ghost use Rattle.line.specs.Worlds.{world};
 
 use crate::Line;
 use crate::frame::questions::Signal;
-use crate::places::place_from;
+use crate::places::{Section, place_from};
 use lamps::Lamps;
 use rules::aspect::Aspect;
 use rules::line::Station;
@@ -30,20 +29,11 @@ impl<T: Track, L: Lamps> Line<T, L> {
         Ok((self.aspect_at(at), self.count_at(at)))
     }
 
-    // The track reads vacant.
-    pub(crate) fn is_vacant(&self, section: u32) -> bool
-        requires { legal_section section ≡ true }
-        ensures { result ≡ (state_at (world T.cells self.now) section == 0) }
-    {
-        self.track.is_vacant(section)
-    }
-
     // Vacant, and no slip out on it.
-    pub(crate) fn is_clear(&self, section: u32) -> bool
-        requires { legal_section section ≡ true }
-        ensures { result ≡ clear (world T.cells self.now) section }
+    pub(crate) fn is_clear(&self, section: Section) -> bool
+        ensures { result ≡ clear (world T.cells self.now) section.number }
     {
-        self.is_vacant(section) && !self.frame.closed_at(section)
+        self.track.is_vacant(section.number) && !self.frame.closed_at(section.number)
     }
 
     // The block so many places on from a station is clear.
@@ -53,7 +43,9 @@ impl<T: Track, L: Lamps> Line<T, L> {
         ensures { result ≡ clear (world T.cells self.now)
             (place_from (blocks (world T.cells self.now)) station distance) }
     {
-        self.is_clear(place_from(self.frame.blocks(), station, distance))
+        self.is_clear(Section {
+            number: place_from(self.frame.blocks(), station, distance),
+        })
     }
 
     // How many blocks are clear one after the other ahead of a signal.
@@ -66,11 +58,11 @@ impl<T: Track, L: Lamps> Line<T, L> {
             .count() as u32
     }
 
-    // Every block, from one station to the other.
+    // Every block, from A to B.
     pub(crate) fn line_clear(&self) -> bool
         ensures { result ≡ all_clear (world T.cells self.now) (blocks (world T.cells self.now)) }
     {
-        (1..=self.frame.blocks()).all(|block| self.is_clear(block))
+        (1..=self.frame.blocks()).all(|block| self.is_clear_ahead(Station::EndA, block))
     }
 
     fn starter_count(&self, station: Station) -> u32

@@ -33,7 +33,7 @@ impl<T: Track, L: Lamps> Line<T, L> {
             return Err(Refusal::NotClear);
         }
         let section = self.frame.section_of(train, 0);
-        self.track.enter(section, train.axles)?;
+        self.track.enter(section.number, train.axles)?;
         self.frame.push_train(train);
         Ok(())
     }
@@ -132,7 +132,7 @@ impl<T: Track, L: Lamps> Line<T, L> {
         let moved = self.frame.front_moved(train);
         Ok(Move {
             index,
-            section: self.frame.section_of(moved, train.front + 1),
+            section: self.frame.section_of(moved, train.front + 1).number,
             axles: train.axles,
             train: moved,
         })

@@ -1,16 +1,15 @@
 // Which signal or section a question is about.
-ghost use Rattle.std.specs.Prelude.{◌≡◌, ◌<◌, ◌≤◌, true, [], ◌∷◌, OnOk};
+ghost use Rattle.std.specs.Prelude.{◌≡◌, ◌<◌, ◌≤◌, [], ◌∷◌, is_some, IfSome};
 ghost use Rattle.std.specs.Result.{result_map_both};
 ghost use Rattle.rules.specs.Calls.{ask_signal, ask_name, verdict, entry_section, not_laid, not_in_use};
-ghost use Rattle.rules.specs.Detection.{legal_section};
 ghost use Rattle.rules.specs.Lines.{in_use};
 ghost use Rattle.rules.specs.Signals.{has_signal, distance_to};
-ghost use Rattle.rules.specs.Table.{answer, outcome, topmost};
+ghost use Rattle.rules.specs.Table.{answer, topmost};
 ghost use Rattle.line.specs.Asked.{signal_at, section_named};
 ghost use Rattle.line.specs.Frames.{trackless, nothing_shown};
 
 use crate::frame::Frame;
-use crate::places::{Road, place_from};
+use crate::places::{Road, Section, place_from};
 use crate::search::search;
 use rules::line::Station;
 use rules::refusal::Refusal;
@@ -54,25 +53,29 @@ impl Frame {
         })
     }
 
-    pub(crate) fn is_in_use(&self, section: u32) -> bool
-        ensures is { result ≡ in_use (trackless self.now) section }
-        ensures legal { result ≡ true → legal_section section ≡ true }
+    // The section of a number, where it is in use.
+    pub(crate) fn in_use(&self, number: u32) -> Option<Section>
+        ensures is { is_some result ≡ in_use (trackless self.now) number }
+        ensures same { IfSome result (λ section. section.number ≡ number) }
     {
-        self.is_block(section)
-            || self.last_road(Station::EndA).reaches(section)
-            || self.last_road(Station::EndB).reaches(section)
+        if self.is_block(number)
+            || self.last_road(Station::EndA).reaches(number)
+            || self.last_road(Station::EndB).reaches(number)
+        {
+            Some(Section { number })
+        } else {
+            None
+        }
     }
 
-    pub(crate) fn check_in_use(&self, section: u32) -> Result<(), Refusal>
-        ensures row { result ≡ outcome (topmost
-            (not_laid (trackless self.now) ∷ not_in_use (trackless self.now) section ∷ [])) }
-        ensures legal { OnOk result (legal_section section ≡ true) }
+    // The section that a call may be about: the line is laid, and it is in use.
+    pub(crate) fn check_in_use(&self, number: u32) -> Result<Section, Refusal>
+        ensures { result_map_both (λ section. section.number) (λ refusal. refusal) result
+            ≡ answer (topmost
+            (not_laid (trackless self.now) ∷ not_in_use (trackless self.now) number ∷ [])) number }
     {
         self.laid()?;
-        if !self.is_in_use(section) {
-            return Err(Refusal::NoSection);
-        }
-        Ok(())
+        self.in_use(number).ok_or(Refusal::NoSection)
     }
 
     // The section of an entry of the plan.
@@ -85,9 +88,9 @@ impl Frame {
         if index < blocks {
             index + 1
         } else if index < before_b {
-            Road::first(Station::EndA).section() + (index - blocks)
+            Road::first(Station::EndA).section().number + (index - blocks)
         } else {
-            Road::first(Station::EndB).section() + (index - before_b)
+            Road::first(Station::EndB).section().number + (index - before_b)
         }
     }
 

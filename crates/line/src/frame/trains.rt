@@ -12,7 +12,7 @@ ghost use Rattle.line.specs.Moves.{running, taking_off, following};
 
 use crate::frame::plan::MOST_NUMBER;
 use crate::frame::{Frame, MOST};
-use crate::places::{Road, place_from};
+use crate::places::{Road, Section, place_from};
 use crate::search::search;
 use rules::detection::{FEWEST_AXLES, MOST_AXLES};
 use rules::line::{Station, Train};
@@ -88,9 +88,9 @@ impl Frame {
     }
 
     // The section of a train so many places on from the station that it leaves.
-    pub(crate) fn section_of(&self, train: Train, distance: u32) -> u32
+    pub(crate) fn section_of(&self, train: Train, distance: u32) -> Section
         requires { train_kept (blocks (trackless self.now)) train ≡ true }
-        ensures { result ≡ section_of (blocks (trackless self.now)) train distance }
+        ensures { result.number ≡ section_of (blocks (trackless self.now)) train distance }
     {
         let blocks = self.blocks();
         if distance == 0 {
@@ -100,7 +100,9 @@ impl Frame {
             }
             .section()
         } else if distance <= blocks {
-            place_from(blocks, train.from, distance)
+            Section {
+                number: place_from(blocks, train.from, distance),
+            }
         } else {
             Road {
                 station: train.from.other(),
@@ -156,7 +158,7 @@ impl Frame {
         }
         Ok(Move {
             index,
-            section: self.section_of(train, 0),
+            section: self.section_of(train, 0).number,
             axles: train.axles,
             train,
         })
@@ -176,7 +178,7 @@ impl Frame {
         }
         Ok(Move {
             index,
-            section: self.section_of(train, train.rear),
+            section: self.section_of(train, train.rear).number,
             axles: train.axles,
             train: self.rear_moved(train),
         })
