@@ -6,7 +6,7 @@ use Rattle.rules.specs.LineRuns as rules_say
 use Rattle.rules.specs.LineRuns.{unless, result}
 use Rattle.rules.specs.Lines.{Line as Ruled}
 use Rattle.rules.specs.Signals.{Shows}
-use Rattle.rules.specs.Table.{answer, after}
+use Rattle.rules.specs.Table.{answer}
 use Rattle.rules.specs.TrackRuns.{Lawful}
 use Rattle.rules.specs.declared.aspect.Aspect.{Aspect}
 use Rattle.rules.specs.declared.detection.Cell.{Cell}
@@ -23,6 +23,7 @@ use Rattle.line.specs.declared.calls.Answer.{Answer}
 use Rattle.line.specs.declared.calls.Call.{Call}
 use Rattle.line.specs.declared.calls.Call.TheVariants.{HandIn}
 use Rattle.line.specs.declared.slip.Slip.{Slip}
+use Rattle.rules.proofs.Rows.{nothing_altered}
 use Rattle.line.proofs.Exits.{stopped, passed}
 use Rattle.line.proofs.Histories.{lamps_lawful, goes_on}
 
@@ -80,11 +81,6 @@ pub taken_back : (slip : Slip) (result : Result (Unit {0}) (Refusal × Slip)) �
     → ComesBack slip (taken_or result)
 taken_back slip (Ok done) h = tt
 taken_back slip (Err back) h = h
-
--- a question leaves the line as it was, turned down or not
-pub nothing_altered : (v : Option Refusal) (line : Ruled) → line ≡ after v line line
-nothing_altered None line = refl
-nothing_altered (Some refusal) line = refl
 
 -- So works a call of a line with lawful lamps and a lawful track: by the method that it calls, which ends so, and by
 -- what that returned, said as an answer.
