@@ -67,7 +67,8 @@ pub enum Call {
     },
 }
 
-// What a line answers.
+// What a line answers. One enum and no Result: a history keeps a refusal as an answer like the others, and of the two
+// refusals one brings a slip back.
 #[derive(PartialEq, Eq, Debug)]
 pub enum Answer {
     // Carried out.

@@ -14,7 +14,8 @@ use rules::line::Station;
 use rules::refusal::Refusal;
 use track::Track;
 
-// What is painted for a section that is not in use and for a signal that is not there.
+// What is painted for a section that is not in use and for a signal that is not there. A number and no enum: it stands
+// beside the numbers of both, and section states have theirs already.
 const MISSING: u8 = 255;
 
 // What is painted for a closed and vacant block.

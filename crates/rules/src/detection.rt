@@ -23,6 +23,7 @@ pub enum SectionState {
 }
 
 impl SectionState {
+    // The number that the case is declared with.
     pub fn number(self) -> u8
         ensures { result ≡ state_number self }
     {

@@ -13,6 +13,7 @@ pub enum Station {
 }
 
 impl Station {
+    // The number that the case is declared with.
     pub fn number(self) -> u8
         ensures { result ≡ station_number self }
     {

@@ -78,6 +78,7 @@ fn copy(into: &mut Vec<PlanEntry>, plan: &[PlanEntry])
     }
 }
 
+// A loop adds them up, as the rules have it.
 fn sum_metres(part: &[PlanEntry]) -> u32
     requires kept { list_all entry_kept part.now ≡ true }
     requires few { length part.now ≤ 24 }

@@ -52,6 +52,8 @@ pub(crate) fn standing(number: u32, axles: u32, from: Station, road: u32) -> Tra
     }
 }
 
+// That an index is one of the trains, and that a train is in order on the line, stands in the contracts below: both are
+// facts about this frame, which no type of an index or a train can state.
 impl Frame {
     pub(crate) fn trains(&self) -> &[Train]
         ensures { result.now ≡ self.now.trains.items }
