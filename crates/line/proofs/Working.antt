@@ -4,7 +4,6 @@ use Rattle.rules.specs.Aspects.{aspect_number}
 use Rattle.rules.specs.Calls.{effect}
 use Rattle.rules.specs.LineRuns as rules_say
 use Rattle.rules.specs.LineRuns.{unless, result}
-use Rattle.rules.specs.Lines.{Line as Ruled}
 use Rattle.rules.specs.Signals.{Shows}
 use Rattle.rules.specs.Table.{answer}
 use Rattle.rules.specs.TrackRuns.{Lawful}
