@@ -1,5 +1,5 @@
 // Closing a block and handing its slip in.
-ghost use Rattle.std.specs.Prelude.{◌≡◌, ◌≤◌, true, OnOk};
+ghost use Rattle.std.specs.Prelude.{◌≡◌, ◌≤◌, OnOk};
 ghost use Rattle.rules.specs.Calls.{close, hand_in, verdict};
 ghost use Rattle.rules.specs.Table.{answer};
 ghost use Rattle.line.specs.Slips.{slip_for, without_slip, GivenBack};

@@ -1,5 +1,5 @@
 // The levers of the two stations: what locks them, and putting them.
-ghost use Rattle.std.specs.Prelude.{◌≡◌, ◌≤◌, true, OnOk};
+ghost use Rattle.std.specs.Prelude.{◌≡◌, true};
 ghost use Rattle.rules.specs.Calls.{with_levers, turned, verdict, some_station, starter_held, home_held};
 ghost use Rattle.rules.specs.Lines.{levers_at};
 ghost use Rattle.rules.specs.Table.{answer};

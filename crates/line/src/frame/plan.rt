@@ -1,5 +1,5 @@
 // The plan: the metres and the names of the sections in use.
-ghost use Rattle.std.specs.Prelude.{◌≡◌, ◌+◌, ◌-◌, ◌≤◌, true, length, vec_capacity, sum_by};
+ghost use Rattle.std.specs.Prelude.{◌≡◌, ◌+◌, ◌≤◌, true, length, vec_capacity, sum_by};
 ghost use Rattle.std.specs.List.{list_all};
 ghost use Rattle.rules.specs.Calls.{legal_laying, legal_entry, legal_entries, has_name, names_differ, legal_plan};
 ghost use Rattle.rules.specs.Calls.{as_laid};
