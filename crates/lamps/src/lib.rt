@@ -47,7 +47,7 @@ impl Lamps for LampSet {
 }
 
 // The cab signal goes by metres, once a section is clear.
-#[derive(Clone, Copy)]
+#[derive(Clone, Copy, PartialEq, Eq, Debug)]
 pub struct CabSignal;
 
 impl Lamps for CabSignal {

@@ -81,11 +81,7 @@ module _ {R : Type 0} (shows : Shows) (mark : ℕ → ℕ) (old : Line) (call : 
     after = changed ∙ sym (ap (λ w. after w old (effect mark old call)) none);
   }
 
-  -- a check that asked for every row
-  pub turned_down : {S : Type 0} (x : S) (refusal : Refusal) → Err refusal ≡ answer v x
-      → Exactly shows mark old call value (Err refusal) old
-  turned_down x refusal h = ends_refused refusal (stopped v x refusal h)
-
+  -- a check that asked for every row, and found none
   pub carried_out : {S : Type 0} (x y : S) (new : Line) → Ok y ≡ answer v x → (y ≡ x → new ≡ effect mark old call)
       → Exactly shows mark old call value (Ok value) new
   carried_out x y new h changed = let met = passed v x y h in ends_done new met.0 (changed met.1)

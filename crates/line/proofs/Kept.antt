@@ -1,75 +1,52 @@
 -- What a line keeps to is kept as its trains change.
-use Rattle.std.proofs.Common.{◌≡◌, ℕ, zero, suc, ◌+◌, ◌<◌, ◌≤◌, Bool, true, false, not, ◌||◌, eqb, ltb, leb, List, []}
-use Rattle.std.proofs.Common.{◌∷◌, ◌++◌, length, get_or, take, drop, set, is_some, Some, None, Option, unwrap_or}
-use Rattle.std.proofs.Common.{refl, inl, inr, arith}
+use Rattle.std.proofs.Common.{◌≡◌, ℕ, ◌+◌, ◌<◌, Bool, true, ◌||◌, eqb, List}
+use Rattle.std.proofs.Common.{◌++◌, length, take, drop, set, is_some, Some, Option}
+use Rattle.std.proofs.Common.{refl, ◌∙◌, inl, inr, arith}
+use Rattle.std.specs.List.{All, list_all}
 use Rattle.std.proofs.lemmas.List.{length-set}
-use Rattle.std.proofs.lemmas.Bool.{and_parts, and_from, or_cases, or_left, eqb-true, leb-true, le-leb, cond_both}
-use Rattle.std.proofs.lemmas.Bool.{both_ways}
-use Rattle.rules.specs.Calls.{front_moved, rear_moved, standing, legal_laying, legal_plan, legal_entries, names_differ}
-use Rattle.rules.specs.Lines.{Line, blocks, roads, roads_of, no_laying, levers_at}
-use Rattle.rules.specs.Stations.{other_end}
+use Rattle.std.proofs.lemmas.List.Elements.{All-set, All-take, All-drop}
+use Rattle.std.proofs.lemmas.List.Folds.{list_all-append}
+use Rattle.std.proofs.lemmas.List.Sums.{AllPass-from_list_all, list_all-from_AllPass}
+use Rattle.std.proofs.lemmas.Bool.{and_parts, and_from, or_cases, or_left, eqb-true}
+use Rattle.rules.specs.Calls.{legal_plan, legal_entries, names_differ}
+use Rattle.rules.specs.Lines.{Line, blocks, roads, roads_of}
 use Rattle.rules.specs.Table.{within}
-use Rattle.promises.proofs.Moves.{with_rear}
 use Rattle.rules.specs.declared.line.Laying.{Laying}
-use Rattle.rules.specs.declared.line.Levers.{Levers}
 use Rattle.rules.specs.declared.line.PlanEntry.{PlanEntry}
-use Rattle.rules.specs.declared.line.Station.{Station}
 use Rattle.rules.specs.declared.line.Station.TheVariants.{EndA, EndB}
 use Rattle.rules.specs.declared.line.Train.{Train}
-use Rattle.line.specs.Keeping.{every, blocks_laid, train_kept, trains_kept, entry_kept, plan_kept, laid_legally}
-use Rattle.line.specs.Keeping.{levers_kept}
+use Rattle.line.specs.Keeping.{blocks_laid, train_kept, trains_kept, entry_kept, plan_kept}
 use Rattle.line.proofs.Planned.{legal_kept}
 
-pub every_at : {X : Type 0} (p : X → Bool) (xs : List X) (i : ℕ) (d : X) → every p xs ≡ true → i < length xs
-    → p (get_or xs i d) ≡ true
-every_at p [] i d all within = absurd (omega arith)
-every_at p (x ∷ xs) zero d all within = (and_parts (p x) (every p xs) all).0
-every_at p (x ∷ xs) (suc i) d all within = every_at p xs i d (and_parts (p x) (every p xs) all).1 (omega arith)
+-- what holds of each of a list holds of the list with one of them another, of two lists joined, and of either part
+module _ {X : Type 0} (p : X → Bool) (xs : List X) (all : list_all p xs ≡ true) where
+  abbrev passes : X → Type 0
+  passes x = p x ≡ true
 
-every_set : {X : Type 0} (p : X → Bool) (xs : List X) (i : ℕ) (y : X) → every p xs ≡ true → p y ≡ true
-    → every p (set xs i y) ≡ true
-every_set p [] i y all new = refl
-every_set p (x ∷ xs) zero y all new = and_from _ _ new (and_parts (p x) (every p xs) all).1
-every_set p (x ∷ xs) (suc i) y all new =
-    let both = and_parts (p x) (every p xs) all in
-    and_from _ _ both.0 (every_set p xs i y both.1 new)
+  abbrev each : All passes xs
+  each = AllPass-from_list_all p xs all
 
-pub every_join : {X : Type 0} (p : X → Bool) (xs ys : List X) → every p xs ≡ true → every p ys ≡ true
-    → every p (xs ++ ys) ≡ true
-every_join p [] ys first second = second
-every_join p (x ∷ xs) ys first second =
-    let both = and_parts (p x) (every p xs) first in
-    and_from _ _ both.0 (every_join p xs ys both.1 second)
+  each_set : (i : ℕ) (y : X) → p y ≡ true → list_all p (set xs i y) ≡ true
+  each_set i y new = list_all-from_AllPass p _ (All-set passes xs i y new each)
 
-pub every_part : {X : Type 0} (p : X → Bool) (n : ℕ) (xs : List X) → every p xs ≡ true
-    → (every p (take n xs) ≡ true) × (every p (drop n xs) ≡ true)
-every_part p zero xs all = (refl, all)
-every_part p (suc n) [] all = (refl, refl)
-every_part p (suc n) (x ∷ xs) all =
-    let both = and_parts (p x) (every p xs) all in
-    let rest = every_part p n xs both.1 in
-    (and_from _ _ both.0 rest.0, rest.1)
+  each_join : (ys : List X) → list_all p ys ≡ true → list_all p (xs ++ ys) ≡ true
+  each_join ys more = list_all-append p xs ys ∙ rw (all, more) refl
 
--- trains of a line, one of them another, one more, one less
+  pub each_part : (n : ℕ) → (list_all p (take n xs) ≡ true) × (list_all p (drop n xs) ≡ true)
+  each_part n =
+      (list_all-from_AllPass p _ (All-take passes n xs each), list_all-from_AllPass p _ (All-drop passes n xs each))
+
+-- trains of a line, one of them another, one less
 module _ (laying : Option Laying) (trains : List Train) (kept : trains_kept laying trains ≡ true) where
   abbrev n : ℕ
   n = blocks_laid laying
 
-  parts : ((is_some laying || eqb (length trains) 0) ≡ true) × (every (train_kept n) trains ≡ true)
-  parts = and_parts (is_some laying || eqb (length trains) 0) (every (train_kept n) trains) kept
-
-  pub train_kept_at : (i : ℕ) (d : Train) → i < length trains → train_kept n (get_or trains i d) ≡ true
-  train_kept_at i d within = every_at (train_kept n) trains i d parts.1 within
+  parts : ((is_some laying || eqb (length trains) 0) ≡ true) × (list_all (train_kept n) trains ≡ true)
+  parts = and_parts (is_some laying || eqb (length trains) 0) (list_all (train_kept n) trains) kept
 
   pub kept_put : (i : ℕ) (train : Train) → train_kept n train ≡ true → trains_kept laying (set trains i train) ≡ true
   kept_put i train new =
-      and_from _ _ (rw (length-set trains i train) parts.0) (every_set (train_kept n) trains i train parts.1 new)
-
-  pub kept_pushed : (train : Train) → is_some laying ≡ true → train_kept n train ≡ true
-      → trains_kept laying (trains ++ train ∷ []) ≡ true
-  kept_pushed train laid new =
-      and_from _ _ (or_left _ _ laid)
-      (every_join (train_kept n) trains (train ∷ []) parts.1 (and_from _ _ new refl))
+      and_from _ _ (rw (length-set trains i train) parts.0) (each_set (train_kept n) trains parts.1 i train new)
 
   pub kept_removed : (i : ℕ) → i < length trains → trains_kept laying (take i trains ++ drop (i + 1) trains) ≡ true
   kept_removed i within =
@@ -77,123 +54,22 @@ module _ (laying : Option Laying) (trains : List Train) (kept : trains_kept layi
         | inl laid ↦ or_left _ _ laid
         | inr none ↦ absurd (omega (arith, eqb-true (length trains) 0 none))
       ])
-      (every_join (train_kept n) (take i trains) (drop (i + 1) trains)
-      (every_part (train_kept n) i trains parts.1).0 (every_part (train_kept n) (i + 1) trains parts.1).1)
-
--- the limits of one train, taken apart and put together
-pub record Placed (n : ℕ) (train : Train) : Type 0 where
-  pub numbered : ltb 0 train.number ≡ true
-  pub behind : train.rear ≤ train.front
-  pub ahead : train.front ≤ n + 1
-  pub road : train.road ≤ 4
-  pub into : train.into ≤ 4
-
-pub placed : (n : ℕ) (train : Train) → train_kept n train ≡ true → Placed n train
-placed n train kept =
-    let a = and_parts _ (leb train.into 4) kept in
-    let b = and_parts _ (leb train.road 4) a.0 in
-    let d = and_parts _ (leb train.front (n + 1)) b.0 in
-    let e = and_parts (ltb 0 train.number) (leb train.rear train.front) d.0 in
-    record {
-      numbered = e.0;
-      behind = leb-true _ _ e.1;
-      ahead = leb-true _ _ d.1;
-      road = leb-true _ _ b.1;
-      into = leb-true _ _ a.1;
-    }
-
-pub is_kept : (n : ℕ) (train : Train) → Placed n train → train_kept n train ≡ true
-is_kept n train is =
-    and_from _ _ (and_from _ _ (and_from _ _ (and_from _ _ is.numbered (le-leb _ _ is.behind))
-    (le-leb _ _ is.ahead)) (le-leb _ _ is.road)) (le-leb _ _ is.into)
-
-pub rear_kept : (line : Line) (train : Train) → train_kept (blocks line) train ≡ true
-    → (train.rear ≡ train.front → ⊥) → train_kept (blocks line) (rear_moved line train) ≡ true
-rear_kept line train kept apart =
-    let is = placed (blocks line) train kept in
-    let in_road = standing train.number train.axles (other_end train.from) train.into in
-    let on = with_rear train (train.rear + 1) in
-    cond_both (eqb train.rear (blocks line)) in_road on (λ t. train_kept (blocks line) t ≡ true)
-    (λ _. is_kept (blocks line) in_road (record {
-      numbered = is.numbered;
-      behind = omega arith;
-      ahead = omega arith;
-      road = is.into;
-      into = omega arith;
-    }))
-    (λ _. is_kept (blocks line) on (record {
-      numbered = is.numbered;
-      behind = omega (arith, is.behind, apart);
-      ahead = is.ahead;
-      road = is.road;
-      into = is.into;
-    }))
-
-pub front_kept : (line : Line) (train : Train) → train_kept (blocks line) train ≡ true
-    → (train.front ≡ blocks line + 1 → ⊥) → (levers_at line (other_end train.from)).home ≤ 4
-    → train_kept (blocks line) (front_moved line train) ≡ true
-front_kept line train kept going few =
-    let is = placed (blocks line) train kept in
-    let far = (levers_at line (other_end train.from)).home in
-    is_kept (blocks line) (front_moved line train) (record {
-      numbered = is.numbered;
-      behind = omega (arith, is.behind);
-      ahead = omega (arith, is.ahead, going);
-      road = is.road;
-      into = cond_both (eqb train.front (blocks line)) far 0 (λ road. road ≤ 4) (λ _. few) (λ _. omega arith);
-    })
+      (each_join (train_kept n) (take i trains) (each_part (train_kept n) trains parts.1 i).0 (drop (i + 1) trains)
+      (each_part (train_kept n) trains parts.1 (i + 1)).1)
 
 -- the plan has an entry for each block, and every entry keeps to its limits
 pub plan_parts : (line : Line) → plan_kept line.laying line.plan ≡ true
-    → (length line.plan ≡ blocks line + roads line EndA + roads line EndB) × (every entry_kept line.plan ≡ true)
+    → (length line.plan ≡ blocks line + roads line EndA + roads line EndB) × (list_all entry_kept line.plan ≡ true)
 plan_parts line kept =
     let both = and_parts (eqb (length line.plan) (blocks line + roads line EndA + roads line EndB))
-    (every entry_kept line.plan) kept in
+    (list_all entry_kept line.plan) kept in
     (eqb-true _ _ both.0, both.1)
 
--- a line, laid or bare, has at most 16 blocks and 4 roads at a station
-pub few_sections : (laying : Option Laying) → laid_legally laying ≡ true
-    → ((unwrap_or laying no_laying).blocks ≤ 16)
-    × ((station : Station) → roads_of (unwrap_or laying no_laying) station ≤ 4)
-few_sections None legal = (omega arith, λ station. none station) where
-  none : (station : Station) → roads_of no_laying station ≤ 4
-  none EndA = omega arith
-  none EndB = omega arith
-few_sections (Some laying) legal =
-    let number = and_parts _ (within 1 9999 laying.number) legal in
-    let reach = and_parts _ (within 1 laying.blocks laying.reach) number.0 in
-    let b = and_parts _ (within 1 4 (roads_of laying EndB)) reach.0 in
-    let a = and_parts (within 1 16 laying.blocks) (within 1 4 (roads_of laying EndA)) b.0 in
-    (at_most 1 16 laying.blocks a.0, by_end a.1 b.1) where
-      at_most : (low high k : ℕ) → within low high k ≡ true → k ≤ high
-      at_most low high k h = leb-true k high (and_parts (leb low k) (leb k high) h).1
-
-      by_end : within 1 4 (roads_of laying EndA) ≡ true → within 1 4 (roads_of laying EndB) ≡ true
-          → (station : Station) → roads_of laying station ≤ 4
-      by_end at_a at_b EndA = at_most 1 4 (roads_of laying EndA) at_a
-      by_end at_a at_b EndB = at_most 1 4 (roads_of laying EndB) at_b
-
-pub home_kept : (levers : Levers) → levers_kept levers ≡ true → levers.home ≤ 4
-home_kept levers kept =
-    leb-true levers.home 4 (and_parts (leb levers.starter 4) (leb levers.home 4) kept).1
-
--- a bare line has no trains, so that they fit any laying
-pub no_trains_kept : (old : Option Laying) (laying : Laying) (trains : List Train) → not (is_some old) ≡ true
-    → trains_kept old trains ≡ true → every (train_kept laying.blocks) trains ≡ true
-no_trains_kept None laying [] bare kept = refl
-no_trains_kept None laying (train ∷ trains) bare kept =
-    let none = (and_parts (eqb (length (train ∷ trains)) 0) (every (train_kept 0) (train ∷ trains)) kept).0 in
-    absurd (omega (arith, eqb-true (length (train ∷ trains)) 0 none))
-no_trains_kept (Some old) laying trains bare kept = absurd (both_ways false refl bare)
-
--- a legal plan is short, and is one that a line keeps
-pub plan_of_laying : (laying : Laying) (plan : List PlanEntry) → legal_laying laying ≡ true
-    → legal_plan laying plan ≡ true
-    → (length plan ≤ 24) × (plan_kept (Some laying) plan ≡ true)
-plan_of_laying laying plan numbers entries =
-    let few = few_sections (Some laying) numbers in
+-- a legal plan is one that a line keeps
+pub plan_of_laying : (laying : Laying) (plan : List PlanEntry) → legal_plan laying plan ≡ true
+    → plan_kept (Some laying) plan ≡ true
+plan_of_laying laying plan entries =
     let names = and_parts _ (names_differ plan) entries in
     let parts = and_parts (eqb (length plan) (laying.blocks + roads_of laying EndA + roads_of laying EndB))
     (legal_entries plan) names.0 in
-    let long = eqb-true (length plan) (laying.blocks + roads_of laying EndA + roads_of laying EndB) parts.0 in
-    (omega (arith, long, few.0, few.1 EndA, few.1 EndB), and_from _ _ parts.0 (legal_kept plan parts.1))
+    and_from _ _ parts.0 (legal_kept plan parts.1)

@@ -1,12 +1,13 @@
+mod Ranges
 mod Searching
-mod Asking
 mod Exits
+mod Running
 mod Clear
 mod Kept
 mod Metres
 mod Passing
 mod Planned
-mod Vacant
 mod PaintedBytes
-mod Working
 mod Histories
+mod Working
+mod Ending

@@ -1,24 +1,19 @@
 -- The metres of blocks one after the other are those of a part of the plan, whichever way they are counted.
-use Rattle.std.proofs.Common.{◌≡◌, ℕ, zero, suc, ◌+◌, ◌-◌, ◌<◌, ◌≤◌, true, ltb, leb, List, length, get_or, take, drop}
+use Rattle.std.proofs.Common.{◌≡◌, ℕ, zero, suc, ◌+◌, ◌-◌, ◌<◌, ◌≤◌, List, length, get_or, take, drop}
 use Rattle.std.proofs.Common.{sum_by, sym, refl, ap, ◌∙◌, add-one, arith, length-drop}
 use Rattle.std.proofs.lemmas.List.{get_or-drop, at_drop_more}
 use Rattle.std.proofs.lemmas.List.Sums.{sum_by-cons, sum_by_more}
-use Rattle.std.proofs.lemmas.Bool.{and_parts, leb-true, le-leb, lt-leb, ne_eqb, cond-true, cond-false}
+use Rattle.std.proofs.lemmas.Bool.{le-leb, lt-leb, ne_eqb, cond-true, cond-false}
 use Rattle.rules.specs.Lines.{Line, blocks, levers_at}
 use Rattle.rules.specs.Signals.{metres_from, metres_of_entry, metres_at, count_at, home_count, road_index}
 use Rattle.rules.specs.Stations.{other_end}
 use Rattle.rules.specs.declared.line.PlanEntry.{PlanEntry}
 use Rattle.rules.specs.declared.line.Station.{Station}
 use Rattle.rules.specs.declared.line.Station.TheVariants.{EndA, EndB}
-use Rattle.line.specs.Keeping.{entry_kept}
 use Rattle.line.specs.Parts.{part_start}
 
 abbrev pub metres_sum : List PlanEntry → ℕ
 metres_sum plan = sum_by (λ entry. entry.metres) plan
-
-pub short_entry : (entry : PlanEntry) → entry_kept entry ≡ true → entry.metres ≤ 9999
-short_entry entry kept =
-    leb-true entry.metres 9999 (and_parts (ltb 0 entry.name) (leb entry.metres 9999) kept).1
 
 abbrev pub no_entry : PlanEntry
 no_entry = record { name = 0; metres = 0 }

@@ -1,16 +1,30 @@
 -- What the methods of a line return, as answers of the rules.
-use Rattle.std.proofs.Common.{◌≡◌, ℕ, List, Some, None, Ok, Err, Option, Result, sym, refl, ap}
+use Rattle.std.proofs.Common.{◌≡◌, ℕ, List, Some, None, Ok, Err, Option, Result, sym, refl, ap, ◌∙◌}
+use Rattle.rules.specs.Aspects.{aspect_number}
+use Rattle.rules.specs.Calls.{effect}
 use Rattle.rules.specs.LineRuns as rules_say
-use Rattle.rules.specs.LineRuns.{unless}
-use Rattle.rules.specs.Lines.{Line}
-use Rattle.rules.specs.Table.{answer, after}
+use Rattle.rules.specs.LineRuns.{unless, result}
+use Rattle.rules.specs.Signals.{Shows}
+use Rattle.rules.specs.Table.{answer}
+use Rattle.rules.specs.TrackRuns.{Lawful}
 use Rattle.rules.specs.declared.aspect.Aspect.{Aspect}
+use Rattle.rules.specs.declared.detection.Cell.{Cell}
 use Rattle.rules.specs.declared.refusal.Refusal.{Refusal}
+use Rattle.line.specs.Exact.{exact_answer, exact_after, exact_verdict}
 use Rattle.line.specs.Results.{done_or, slip_or, taken_or, shown_or, named_or, painted_or}
 use Rattle.line.specs.Slips.{without_slip, GivenBack}
-use Rattle.line.specs.Told.{meant, NoSlipBack, ComesBack}
+use Rattle.line.specs.Told.{asked, meant, SlipKept, NoSlipBack, ComesBack}
+use Rattle.line.specs.Worked.{Worked}
+use Rattle.line.specs.Works.{Works}
+use Rattle.line.specs.Worlds.{world}
+use Rattle.line.specs.declared.Line.{Line}
+use Rattle.line.specs.declared.calls.Answer.{Answer}
+use Rattle.line.specs.declared.calls.Call.{Call}
+use Rattle.line.specs.declared.calls.Call.TheVariants.{HandIn}
 use Rattle.line.specs.declared.slip.Slip.{Slip}
+use Rattle.rules.proofs.Rows.{nothing_altered}
 use Rattle.line.proofs.Exits.{stopped, passed}
+use Rattle.line.proofs.Histories.{lamps_lawful, goes_on}
 
 pub done_said : (v : Option Refusal) → meant (done_or (answer v tt)) ≡ unless v rules_say.done
 done_said None = refl
@@ -67,7 +81,57 @@ pub taken_back : (slip : Slip) (result : Result (Unit {0}) (Refusal × Slip)) �
 taken_back slip (Ok done) h = tt
 taken_back slip (Err back) h = h
 
--- a question leaves the line as it was, turned down or not
-pub nothing_altered : (v : Option Refusal) (line : Line) → line ≡ after v line line
-nothing_altered None line = refl
-nothing_altered (Some refusal) line = refl
+-- So works a call of a line with lawful lamps and a lawful track: by the method that it calls, which ends so, and by
+-- what that returned, said as an answer.
+module _ {X Y : Type 0} {shows : Y → Shows} {mark : ℕ → ℕ} {cells : X → List Cell} {old new : Line X Y}
+    (stops : (m : ℕ) → aspect_number (shows old.lamps 0 m) ≡ 0)
+    (proceeds : (r m : ℕ) → aspect_number (shows old.lamps r m) ≡ 0 → r ≡ 0) (lawful : Lawful mark)
+    (call : Call) where
+  worked : (reply : Answer) → meant reply ≡ exact_answer (shows old.lamps) mark (world cells old) (asked call)
+      → world cells new ≡ exact_after (shows old.lamps) mark (world cells old) (asked call)
+      → new.lamps ≡ old.lamps → SlipKept call reply → Worked shows mark cells old call reply new
+  worked reply said left lamps slip = record {
+    answer = said;
+    after = left;
+    lamps = lamps;
+    slip = slip;
+    history = goes_on (shows old.lamps) (lamps_lawful (shows old.lamps) stops proceeds) mark lawful (world cells old)
+        (world cells new) (asked call) (meant reply) said left;
+  }
+
+  -- by a call
+  pub by_call : {R : Type 0} {value : R} (says : Result R Refusal → Answer)
+      → ((v : Option Refusal) → meant (says (answer v value))
+      ≡ unless v (result (shows old.lamps) (world cells old) (asked call)))
+      → ((returned : Result R Refusal) → SlipKept call (says returned))
+      → (returned : Result R Refusal)
+      → Works shows mark cells old (asked call) value returned new
+      → Worked shows mark cells old call (says returned) new
+  by_call says told kept returned works =
+      worked (says returned) (ap (λ r. meant (says r)) works.ends.answer ∙ told _) works.ends.after works.lamps
+      (kept returned)
+
+  -- by a handing-in
+  pub by_handing_in : (slip : Slip) → call ≡ HandIn slip → (returned : Result (Unit {0}) (Refusal × Slip))
+      → Works shows mark cells old (asked call) tt (without_slip returned) new → GivenBack slip returned
+      → Worked shows mark cells old call (taken_or returned) new
+  by_handing_in slip is returned works back =
+      worked (taken_or returned) (taken_said _ returned works.ends.answer ∙ rw is refl) works.ends.after works.lamps
+      (rw is (taken_back slip returned back))
+
+-- by a question, which leaves the line as it was, turned down or not
+module _ {X Y : Type 0} {shows : Y → Shows} {mark : ℕ → ℕ} {cells : X → List Cell} {line : Line X Y}
+    (stops : (m : ℕ) → aspect_number (shows line.lamps 0 m) ≡ 0)
+    (proceeds : (r m : ℕ) → aspect_number (shows line.lamps r m) ≡ 0 → r ≡ 0) (lawful : Lawful mark)
+    (call : Call) where
+  pub by_question : {R : Type 0} (value : R) (says : Result R Refusal → Answer)
+      → ((v : Option Refusal) → meant (says (answer v value))
+      ≡ unless v (result (shows line.lamps) (world cells line) (asked call)))
+      → ((returned : Result R Refusal) → SlipKept call (says returned))
+      → (returned : Result R Refusal)
+      → returned ≡ answer (exact_verdict (shows line.lamps) mark (world cells line) (asked call)) value
+      → effect mark (world cells line) (asked call) ≡ world cells line
+      → Worked shows mark cells line call (says returned) line
+  by_question value says told kept returned answered still =
+      worked stops proceeds lawful call (says returned) (ap (λ r. meant (says r)) answered ∙ told _)
+      (rw still (nothing_altered _ _)) refl (kept returned)

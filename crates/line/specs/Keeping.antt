@@ -1,6 +1,7 @@
 -- What a line keeps to, whatever its track: the facts that its type states.
-use Rattle.std.specs.Prelude.{ℕ, ◌+◌, Bool, true, ◌&&◌, ◌||◌, List, [], ◌∷◌, length, is_some, Some, None, Option}
+use Rattle.std.specs.Prelude.{ℕ, ◌+◌, Bool, true, ◌&&◌, ◌||◌, List, length, is_some, Some, None, Option}
 use Rattle.std.specs.Prelude.{◌==◌, nat_eq, nat_le, nat_lt}
+use Rattle.std.specs.List.{list_all}
 use Rattle.std.specs.Option.{unwrap_or}
 use Rattle.rules.specs.Calls.{legal_laying}
 use Rattle.rules.specs.Lines.{no_laying}
@@ -8,11 +9,6 @@ use Rattle.rules.specs.declared.line.Laying.{Laying}
 use Rattle.rules.specs.declared.line.Levers.{Levers}
 use Rattle.rules.specs.declared.line.PlanEntry.{PlanEntry}
 use Rattle.rules.specs.declared.line.Train.{Train}
-
--- whether a test holds of each of a list
-abbrev pub every : {X : Type 0} → (X → Bool) → List X → Bool
-every p [] = true
-every p (x ∷ xs) = p x && every p xs
 
 -- A line that is laid keeps to the limits of a laying.
 abbrev pub laid_legally : Option Laying → Bool
@@ -32,7 +28,7 @@ abbrev pub plan_kept : Option Laying → List PlanEntry → Bool
 plan_kept laying plan =
     nat_eq (length plan)
     (blocks_laid laying + (unwrap_or laying no_laying).roads_a + (unwrap_or laying no_laying).roads_b)
-    && every entry_kept plan
+    && list_all entry_kept plan
 
 -- No card bears 0; a train's rear is not ahead of its front, and its front not beyond the far station.
 abbrev pub train_kept : ℕ → Train → Bool
@@ -42,7 +38,7 @@ train_kept n train =
 
 abbrev pub trains_kept : Option Laying → List Train → Bool
 trains_kept laying trains =
-    (is_some laying || length trains == 0) && every (train_kept (blocks_laid laying)) trains
+    (is_some laying || length trains == 0) && list_all (train_kept (blocks_laid laying)) trains
 
 -- a lever is normal or reversed for one of four roads
 abbrev pub levers_kept : Levers → Bool

@@ -1,12 +1,14 @@
 pub mod Keeping
 pub mod Frames
-pub mod Holding
+pub mod Levers
 pub mod Moves
 pub mod Parts
 pub mod Asked
 pub mod Slips
 pub mod Worlds
 pub mod Exact
+pub mod Works
 pub mod Results
 pub mod Told
 pub mod History
+pub mod Worked

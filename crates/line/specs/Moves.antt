@@ -3,7 +3,12 @@ use Rattle.std.specs.Prelude.{ℕ, ◌+◌}
 use Rattle.std.specs.Option.{unwrap_or}
 use Rattle.rules.specs.Calls.{train_index, train_of, front_moved, rear_moved}
 use Rattle.rules.specs.Lines.{Line, blocks, section_of}
+use Rattle.rules.specs.declared.line.Train.{Train}
 use Rattle.line.specs.declared.frame.trains.Move.{Move}
+
+-- where the train of a number is among the trains, and the train
+abbrev pub running : Line → ℕ → ℕ × Train
+running line number = (unwrap_or (train_index line number) 0, train_of line number)
 
 -- a train that is taken off leaves its road
 abbrev pub taking_off : Line → ℕ → Move

@@ -9,6 +9,7 @@ use rules::line::{Laying, PlanEntry};
 use rules::refusal::Refusal;
 
 // One call or question. Whatever the numbers are, they are answered.
+#[derive(PartialEq, Eq, Debug)]
 pub enum Call {
     Lay {
         laying: Laying,
@@ -66,7 +67,9 @@ pub enum Call {
     },
 }
 
-// What a line answers.
+// What a line answers. One enum and no Result: a history keeps a refusal as an answer like the others, and of the two
+// refusals one brings a slip back.
+#[derive(PartialEq, Eq, Debug)]
 pub enum Answer {
     // Carried out.
     Done,
@@ -83,56 +86,62 @@ pub enum Answer {
     Painted([u8; PANEL_BYTES]),
 }
 
-pub(crate) fn done_or(res: Result<(), Refusal>) -> Answer
-    ensures { result ≡ done_or res }
-{
-    match res {
-        Ok(()) => Answer::Done,
-        Err(refusal) => Answer::TurnedDown(refusal),
+// A call that gives nothing but its carrying out.
+impl From<Result<(), Refusal>> for Answer {
+    ghost from_gives = { λ res answer. answer ≡ done_or res };
+
+    fn from(res: Result<(), Refusal>) -> Self {
+        res.map_or_else(Answer::TurnedDown, |()| Answer::Done)
     }
 }
 
-pub(crate) fn slip_or(res: Result<Slip, Refusal>) -> Answer
-    ensures { result ≡ slip_or res }
-{
-    match res {
-        Ok(slip) => Answer::Closed(slip),
-        Err(refusal) => Answer::TurnedDown(refusal),
+// A closing.
+impl From<Result<Slip, Refusal>> for Answer {
+    ghost from_gives = { λ res answer. answer ≡ slip_or res };
+
+    fn from(res: Result<Slip, Refusal>) -> Self {
+        res.map_or_else(Answer::TurnedDown, Answer::Closed)
     }
 }
 
-pub(crate) fn taken_or(res: Result<(), (Refusal, Slip)>) -> Answer
-    ensures { result ≡ taken_or res }
-{
-    match res {
-        Ok(()) => Answer::Done,
-        Err((refusal, slip)) => Answer::NotTaken { refusal, slip },
+// A handing-in.
+impl From<Result<(), (Refusal, Slip)>> for Answer {
+    ghost from_gives = { λ res answer. answer ≡ taken_or res };
+
+    fn from(res: Result<(), (Refusal, Slip)>) -> Self {
+        match res {
+            Ok(()) => Answer::Done,
+            Err((refusal, slip)) => Answer::NotTaken { refusal, slip },
+        }
     }
 }
 
-pub(crate) fn shown_or(res: Result<(Aspect, u32), Refusal>) -> Answer
-    ensures { result ≡ shown_or res }
-{
-    match res {
-        Ok((aspect, count)) => Answer::Shows { aspect, count },
-        Err(refusal) => Answer::TurnedDown(refusal),
+// A signal asked for.
+impl From<Result<(Aspect, u32), Refusal>> for Answer {
+    ghost from_gives = { λ res answer. answer ≡ shown_or res };
+
+    fn from(res: Result<(Aspect, u32), Refusal>) -> Self {
+        res.map_or_else(
+            Answer::TurnedDown,
+            |(aspect, count)| Answer::Shows { aspect, count },
+        )
     }
 }
 
-pub(crate) fn named_or(res: Result<u32, Refusal>) -> Answer
-    ensures { result ≡ named_or res }
-{
-    match res {
-        Ok(section) => Answer::Section(section),
-        Err(refusal) => Answer::TurnedDown(refusal),
+// A section asked for by its name.
+impl From<Result<u32, Refusal>> for Answer {
+    ghost from_gives = { λ res answer. answer ≡ named_or res };
+
+    fn from(res: Result<u32, Refusal>) -> Self {
+        res.map_or_else(Answer::TurnedDown, Answer::Section)
     }
 }
 
-pub(crate) fn painted_or(res: Result<[u8; PANEL_BYTES], Refusal>) -> Answer
-    ensures { result ≡ painted_or res }
-{
-    match res {
-        Ok(bytes) => Answer::Painted(bytes),
-        Err(refusal) => Answer::TurnedDown(refusal),
+// A painting.
+impl From<Result<[u8; PANEL_BYTES], Refusal>> for Answer {
+    ghost from_gives = { λ res answer. answer ≡ painted_or res };
+
+    fn from(res: Result<[u8; PANEL_BYTES], Refusal>) -> Self {
+        res.map_or_else(Answer::TurnedDown, Answer::Painted)
     }
 }

@@ -32,7 +32,7 @@ pub(crate) struct Frame {
 
 mod closings;
 mod laid;
-mod levers;
+pub(crate) mod levers;
 pub(crate) mod plan;
 pub(crate) mod questions;
 pub(crate) mod trains;

@@ -1,18 +1,17 @@
 // A new line, and laying it.
-ghost use Rattle.std.specs.Prelude.{◌≡◌, true, IfOk, IfErr, OnOk, ◌==◌};
+ghost use Rattle.std.specs.Prelude.{◌≡◌, true, IfOk, IfErr, OnOk};
 ghost use Rattle.rules.specs.Calls.{lay, verdict, all_vacant, legal_laying, legal_plan, ask_name};
-ghost use Rattle.rules.specs.Detection.{legal_section};
-ghost use Rattle.rules.specs.Lines.{new_line, bare, state_at};
+ghost use Rattle.rules.specs.Lines.{new_line, bare};
 ghost use Rattle.rules.specs.Table.{answer};
 ghost use Rattle.line.specs.Asked.{section_named};
-ghost use Rattle.line.specs.Exact.{Ends};
+ghost use Rattle.line.specs.Works.{Works};
 ghost use Rattle.line.specs.Worlds.{world};
 
 use crate::Line;
 use crate::frame::Frame;
 use crate::frame::plan::{legal_laying, legal_plan};
 use lamps::Lamps;
-use rules::detection::{LAST_SECTION, SectionState};
+use rules::detection::LAST_SECTION;
 use rules::line::{Laying, PlanEntry, Train};
 use rules::refusal::Refusal;
 use std::alloc::Global;
@@ -42,9 +41,7 @@ impl<T: Track, L: Lamps> Line<T, L> {
 
     // Lays a bare line over a track that is vacant throughout.
     pub fn lay(&mut self, laying: Laying, plan: &[PlanEntry]) -> Result<(), Refusal>
-        ensures ends { Ends (L.shows self.old.lamps) T.mark (world T.cells self.old)
-            (lay laying plan.now) tt result (world T.cells self.new) }
-        ensures lamps { self.new.lamps ≡ self.old.lamps }
+        ensures { Works L.shows T.mark T.cells self.old (lay laying plan.now) tt result self.new }
     {
         self.check_lay(laying, plan)?;
         self.frame.lay(laying, plan);
@@ -62,38 +59,17 @@ impl<T: Track, L: Lamps> Line<T, L> {
         if self.frame.is_laid() {
             return Err(Refusal::Laid);
         }
-        if !legal_laying(laying) {
-            return Err(Refusal::BadPlan);
-        }
-        if !legal_plan(laying, plan) {
-            return Err(Refusal::BadPlan);
-        }
-        if !self.all_vacant() {
+        if !legal_laying(laying) || !legal_plan(laying, plan) || !self.all_vacant() {
             return Err(Refusal::BadPlan);
         }
         Ok(())
-    }
-
-    fn is_vacant(&self, section: u32) -> bool
-        requires { legal_section section ≡ true }
-        ensures { result ≡ (state_at (world T.cells self.now) section == 0) }
-    {
-        match self.track.state(section) {
-            Ok(SectionState::Vacant) => true,
-            _ => false,
-        }
     }
 
     // All 24 sections of the track, in use or not.
     fn all_vacant(&self) -> bool
         ensures { result ≡ all_vacant (world T.cells self.now) 24 }
     {
-        for place in 0..LAST_SECTION {
-            if !self.is_vacant(place + 1) {
-                return false;
-            }
-        }
-        true
+        (1..=LAST_SECTION).all(|section| self.track.is_vacant(section))
     }
 
     // The section that bears a name in the plan.

@@ -2,11 +2,11 @@
 ghost use Rattle.std.specs.Prelude.{◌≡◌};
 ghost use Rattle.rules.specs.Calls.{direction, starter, home, some_station, verdict};
 ghost use Rattle.rules.specs.Table.{answer};
-ghost use Rattle.line.specs.Exact.{Ends};
+ghost use Rattle.line.specs.Works.{Works};
 ghost use Rattle.line.specs.Worlds.{world};
 
 use crate::Line;
-use crate::places::station_of;
+use crate::frame::levers::Lever;
 use lamps::Lamps;
 use rules::line::Station;
 use rules::refusal::Refusal;
@@ -15,9 +15,7 @@ use track::Track;
 impl<T: Track, L: Lamps> Line<T, L> {
     // Turns a direction lever to send or to receive.
     pub fn direction(&mut self, station: u32, send: bool) -> Result<(), Refusal>
-        ensures ends { Ends (L.shows self.old.lamps) T.mark (world T.cells self.old)
-            (direction station send) tt result (world T.cells self.new) }
-        ensures lamps { self.new.lamps ≡ self.old.lamps }
+        ensures { Works L.shows T.mark T.cells self.old (direction station send) tt result self.new }
     {
         let station = self.check_direction(station, send)?;
         self.frame.turn(station, send);
@@ -26,23 +24,19 @@ impl<T: Track, L: Lamps> Line<T, L> {
 
     // Puts a starter to normal, which is road 0, or reverses it for a road.
     pub fn starter(&mut self, station: u32, road: u32) -> Result<(), Refusal>
-        ensures ends { Ends (L.shows self.old.lamps) T.mark (world T.cells self.old)
-            (starter station road) tt result (world T.cells self.new) }
-        ensures lamps { self.new.lamps ≡ self.old.lamps }
+        ensures { Works L.shows T.mark T.cells self.old (starter station road) tt result self.new }
     {
-        let station = self.frame.check_starter(station, road)?;
-        self.frame.put_starter(station, road);
+        let road = self.frame.check_lever(Lever::Starter, station, road)?;
+        self.frame.put_lever(Lever::Starter, road);
         Ok(())
     }
 
     // Puts a home to normal, which is road 0, or reverses it for a road.
     pub fn home(&mut self, station: u32, road: u32) -> Result<(), Refusal>
-        ensures ends { Ends (L.shows self.old.lamps) T.mark (world T.cells self.old)
-            (home station road) tt result (world T.cells self.new) }
-        ensures lamps { self.new.lamps ≡ self.old.lamps }
+        ensures { Works L.shows T.mark T.cells self.old (home station road) tt result self.new }
     {
-        let station = self.frame.check_home(station, road)?;
-        self.frame.put_home(station, road);
+        let road = self.frame.check_lever(Lever::Home, station, road)?;
+        self.frame.put_lever(Lever::Home, road);
         Ok(())
     }
 
@@ -52,12 +46,7 @@ impl<T: Track, L: Lamps> Line<T, L> {
             (verdict (L.shows self.now.lamps) (world T.cells self.now) (direction station send))
             (some_station station) }
     {
-        if !self.frame.is_laid() {
-            return Err(Refusal::NotLaid);
-        }
-        let Some(station) = station_of(station) else {
-            return Err(Refusal::NoStation);
-        };
+        let station = self.frame.station(station)?;
         let levers = self.frame.levers(station);
         if levers.sends == send {
             return Err(Refusal::ThereAlready);

@@ -1,13 +1,12 @@
 // The 66 bytes of the lamp panel.
-ghost use Rattle.std.specs.Prelude.{◌≡◌, ◌<◌, ◌≤◌, true, ◌++◌, length, drop, if◌then◌else◌, OnOk, nat_eq};
+ghost use Rattle.std.specs.Prelude.{◌≡◌, ◌<◌, ◌≤◌, ◌++◌, length, drop, OnOk};
 ghost use Rattle.rules.specs.Calls.{paint, verdict};
-ghost use Rattle.rules.specs.Detection.{legal_section};
-ghost use Rattle.rules.specs.Panels.{section_byte, signal_byte, lock_lamp, panel_byte, flag, panel};
+ghost use Rattle.rules.specs.Panels.{section_byte, signal_byte, lock_lamp, panel_byte, panel};
 ghost use Rattle.rules.specs.Table.{answer, after};
-ghost use Rattle.rules.specs.declared.line.Station.TheVariants.{EndA, EndB};
 ghost use Rattle.line.specs.Worlds.{world};
 
 use crate::Line;
+use crate::frame::questions::Signal;
 use lamps::Lamps;
 use panel::PANEL_BYTES;
 use rules::detection::SectionState;
@@ -15,28 +14,12 @@ use rules::line::Station;
 use rules::refusal::Refusal;
 use track::Track;
 
-// What is painted for a section that is not in use and for a signal that is not there.
+// What is painted for a section that is not in use and for a signal that is not there. A number and no enum: it stands
+// beside the numbers of both, and section states have theirs already.
 const MISSING: u8 = 255;
 
 // What is painted for a closed and vacant block.
 const CLOSED: u8 = 3;
-
-// Two bytes are painted for the two stations, A's first.
-fn end_of(byte: u32) -> Station
-    ensures { result ≡ (if nat_eq byte 0 then EndA else EndB) }
-{
-    if byte == 0 {
-        Station::EndA
-    } else {
-        Station::EndB
-    }
-}
-
-fn flag(on: bool) -> u8
-    ensures { result ≡ flag on }
-{
-    if on { 1 } else { 0 }
-}
 
 impl<T: Track, L: Lamps> Line<T, L> {
     // Paints the first 66 bytes of a panel.
@@ -51,7 +34,7 @@ impl<T: Track, L: Lamps> Line<T, L> {
             (panel (L.shows self.now.lamps) (world T.cells self.now) ++ drop 66 bytes.old) }
     {
         self.check_paint(bytes.len())?;
-        self.paint_bytes(bytes);
+        bytes[..PANEL_BYTES].copy_from_slice(&self.panel());
         Ok(())
     }
 
@@ -62,9 +45,7 @@ impl<T: Track, L: Lamps> Line<T, L> {
             (panel (L.shows self.now.lamps) (world T.cells self.now)) }
     {
         self.check_paint(bytes)?;
-        let mut panel = [0; PANEL_BYTES];
-        self.paint_bytes(&mut panel);
-        Ok(panel)
+        Ok(self.panel())
     }
 
     fn check_paint(&self, bytes: usize) -> Result<(), Refusal>
@@ -72,23 +53,18 @@ impl<T: Track, L: Lamps> Line<T, L> {
             (verdict (L.shows self.now.lamps) (world T.cells self.now) (paint bytes)) tt }
         ensures long { OnOk result (66 ≤ bytes) }
     {
-        if !self.frame.is_laid() {
-            return Err(Refusal::NotLaid);
-        }
+        self.frame.laid()?;
         if bytes < PANEL_BYTES {
             return Err(Refusal::ShortPanel);
         }
         Ok(())
     }
 
-    fn paint_bytes(&self, bytes: &mut [u8])
-        requires { 66 ≤ length bytes.old }
-        ensures { bytes.new
-            ≡ panel (L.shows self.now.lamps) (world T.cells self.now) ++ drop 66 bytes.old }
+    // The bytes that a panel shows, from the first on.
+    fn panel(&self) -> [u8; PANEL_BYTES]
+        ensures { result ≡ panel (L.shows self.now.lamps) (world T.cells self.now) }
     {
-        for at in 0..PANEL_BYTES {
-            bytes[at] = self.byte(at as u32);
-        }
+        std::array::from_fn(|at| self.byte(at as u32))
     }
 
     fn byte(&self, at: u32) -> u8
@@ -99,28 +75,25 @@ impl<T: Track, L: Lamps> Line<T, L> {
             0..24 => self.section_byte(at + 1),
             24..41 => self.signal_byte(Station::EndA, at - 23),
             41..58 => self.signal_byte(Station::EndB, at - 41),
-            58..60 => flag(self.frame.levers(end_of(at - 58)).sends),
-            60..62 => self.frame.levers(end_of(at - 60)).starter as u8,
-            62..64 => self.frame.levers(end_of(at - 62)).home as u8,
-            _ => self.lock_lamp(end_of(at - 64)),
+            58 => u8::from(self.frame.levers(Station::EndA).sends),
+            59 => u8::from(self.frame.levers(Station::EndB).sends),
+            60 => self.frame.levers(Station::EndA).starter as u8,
+            61 => self.frame.levers(Station::EndB).starter as u8,
+            62 => self.frame.levers(Station::EndA).home as u8,
+            63 => self.frame.levers(Station::EndB).home as u8,
+            64 => self.lock_lamp(Station::EndA),
+            _ => self.lock_lamp(Station::EndB),
         }
     }
 
     fn section_byte(&self, section: u32) -> u8
-        requires { legal_section section ≡ true }
         ensures { result ≡ section_byte (world T.cells self.now) section }
     {
-        if !self.frame.is_in_use(section) {
+        let Some(section) = self.frame.in_use(section) else {
             return MISSING;
-        }
-        match self.track.state(section) {
-            Ok(SectionState::Vacant) => {
-                if self.frame.closed_at(section) {
-                    CLOSED
-                } else {
-                    0
-                }
-            }
+        };
+        match self.track.state(section.number) {
+            Ok(SectionState::Vacant) if self.frame.closed_at(section.number) => CLOSED,
             Ok(state) => state.number(),
             Err(_) => MISSING,
         }
@@ -133,8 +106,8 @@ impl<T: Track, L: Lamps> Line<T, L> {
         if !self.frame.has_signal(station, place) {
             return MISSING;
         }
-        self.aspect_at(station, self.frame.distance_to(station, place))
-            .number()
+        let distance = self.frame.distance_to(station, place);
+        self.aspect_at(Signal { station, distance }).number()
     }
 
     // Lit where turning the direction lever over would be turned down: the lever itself is asked.
@@ -142,7 +115,7 @@ impl<T: Track, L: Lamps> Line<T, L> {
         ensures { result ≡ lock_lamp (L.shows self.now.lamps) (world T.cells self.now) station }
     {
         let over = !self.frame.levers(station).sends;
-        flag(
+        u8::from(
             self.check_direction(u32::from(station.number()), over)
                 .is_err(),
         )

@@ -1,7 +1,7 @@
 // Where the places and roads of a line are.
 ghost use Rattle.std.specs.Prelude.{◌≡◌, ◌≤◌, true};
 ghost use Rattle.rules.specs.Detection.{legal_section};
-ghost use Rattle.rules.specs.Stations.{station_of, place_from, road_section};
+ghost use Rattle.rules.specs.Stations.{place_from, road_section};
 ghost use Rattle.rules.specs.Table.{within};
 
 use rules::line::Station;
@@ -10,16 +10,6 @@ use rules::line::Station;
 const BEFORE_ROADS_A: u32 = 16;
 
 const BEFORE_ROADS_B: u32 = 20;
-
-pub(crate) fn station_of(number: u32) -> Option<Station>
-    ensures { result ≡ station_of number }
-{
-    match number {
-        1 => Some(Station::EndA),
-        2 => Some(Station::EndB),
-        _ => None,
-    }
-}
 
 // The place that is so many places on from a station, on a line of so many blocks.
 pub(crate) fn place_from(blocks: u32, station: Station, distance: u32) -> u32
@@ -32,21 +22,44 @@ pub(crate) fn place_from(blocks: u32, station: Station, distance: u32) -> u32
     }
 }
 
-pub(crate) fn road_section(station: Station, road: u32) -> u32
-    requires { road ≤ 4 }
-    ensures { result ≡ road_section station road }
-{
-    match station {
-        Station::EndA => BEFORE_ROADS_A + road,
-        Station::EndB => BEFORE_ROADS_B + road,
-    }
+// A section that every track has.
+#[derive(Clone, Copy)]
+pub(crate) struct Section {
+    pub(crate) number: u32,
+    ghost legal: { legal_section number ≡ true },
 }
 
-// Whether a section is one of so many roads of a station.
-pub(crate) fn is_road(station: Station, roads: u32, section: u32) -> bool
-    requires { roads ≤ 4 }
-    ensures is { result ≡ within (road_section station 1) (road_section station roads) section }
-    ensures legal { result ≡ true → legal_section section ≡ true }
-{
-    road_section(station, 1) <= section && section <= road_section(station, roads)
+// A road of a station; its number is 0 where a lever or a train has none.
+#[derive(Clone, Copy)]
+pub(crate) struct Road {
+    pub(crate) station: Station,
+    pub(crate) number: u32,
+    ghost few: { number ≤ 4 },
+}
+
+impl Road {
+    pub(crate) fn first(station: Station) -> Self
+        ensures station { result.station ≡ station }
+        ensures number { result.number ≡ 1 }
+    {
+        Road { station, number: 1 }
+    }
+
+    pub(crate) fn section(self) -> Section
+        ensures { result.number ≡ road_section self.station self.number }
+    {
+        let number = match self.station {
+            Station::EndA => BEFORE_ROADS_A + self.number,
+            Station::EndB => BEFORE_ROADS_B + self.number,
+        };
+        Section { number }
+    }
+
+    // Whether a section is this road or one before it in the station.
+    pub(crate) fn reaches(self, section: u32) -> bool
+        ensures { result ≡ within (road_section self.station 1) (road_section self.station self.number) section }
+    {
+        let first = Road::first(self.station);
+        (first.section().number..=self.section().number).contains(&section)
+    }
 }

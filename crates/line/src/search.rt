@@ -1,5 +1,6 @@
 // The search by number, for train cards and for plan entries alike.
-ghost use Rattle.std.specs.Prelude.{◌≡◌, ℕ, ◌<◌, length, IfSome};
+ghost use Rattle.std.specs.Prelude.{◌≡◌, ℕ, ◌<◌, length, IfSome, ◌==◌};
+ghost use Rattle.std.specs.List.{position};
 ghost use Rattle.rules.specs.Searches.{search_by};
 
 use rules::line::{PlanEntry, Train};
@@ -29,7 +30,15 @@ impl Numbered for PlanEntry {
     }
 }
 
-// The first index whose record bears the number. No record is looked at for 0, which none bears.
+// The first index whose record bears the number.
+fn place_of<R: Numbered>(records: &[R], number: u32) -> Option<usize>
+    ensures is { result ≡ position (λ x. R.borne x == number) records.now }
+    ensures within { IfSome result (λ index. index < length records.now) }
+{
+    records.iter().position(|record| record.number() == number)
+}
+
+// The same, but that no record is looked at for 0, which none bears.
 pub(crate) fn search<R: Numbered>(records: &[R], number: u32) -> Option<usize>
     ensures found { result ≡ search_by R.borne number records.now }
     ensures within { IfSome result (λ index. index < length records.now) }
@@ -37,10 +46,5 @@ pub(crate) fn search<R: Numbered>(records: &[R], number: u32) -> Option<usize>
     if number == 0 {
         return None;
     }
-    for (index, record) in records.iter().enumerate() {
-        if record.number() == number {
-            return Some(index);
-        }
-    }
-    None
+    place_of(records, number)
 }

@@ -1,19 +1,19 @@
 // What a signal has ahead of it, and what it shows. The trains are never asked.
-ghost use Rattle.std.specs.Prelude.{◌≡◌, ◌+◌, ◌-◌, ◌≤◌, true};
+ghost use Rattle.std.specs.Prelude.{◌≡◌, ◌+◌, ◌-◌, ◌≤◌};
 ghost use Rattle.rules.specs.Calls.{all_clear, ask_signal, verdict};
-ghost use Rattle.rules.specs.Detection.{legal_section};
 ghost use Rattle.rules.specs.Lines.{clear, blocks};
 ghost use Rattle.rules.specs.Signals.{run_ahead, starter_count, block_count, home_count};
 ghost use Rattle.rules.specs.Signals.{count_at, metres_at, aspect_at};
+ghost use Rattle.rules.specs.Stations.{place_from};
 ghost use Rattle.rules.specs.Table.{answer};
 ghost use Rattle.line.specs.Asked.{signal_shown};
 ghost use Rattle.line.specs.Worlds.{world};
 
 use crate::Line;
-use crate::places::{place_from, road_section};
+use crate::frame::questions::Signal;
+use crate::places::{Section, place_from};
 use lamps::Lamps;
 use rules::aspect::Aspect;
-use rules::detection::SectionState;
 use rules::line::Station;
 use rules::refusal::Refusal;
 use track::Track;
@@ -26,44 +26,43 @@ impl<T: Track, L: Lamps> Line<T, L> {
             (signal_shown (L.shows self.now.lamps) (world T.cells self.now) station place) }
     {
         let at = self.frame.check_signal(station, place)?;
-        let aspect = self.aspect_at(at.station, at.distance);
-        let count = self.count_at(at.station, at.distance);
-        Ok((aspect, count))
+        Ok((self.aspect_at(at), self.count_at(at)))
     }
 
     // Vacant, and no slip out on it.
-    pub(crate) fn is_clear(&self, section: u32) -> bool
-        requires { legal_section section ≡ true }
-        ensures { result ≡ clear (world T.cells self.now) section }
+    pub(crate) fn is_clear(&self, section: Section) -> bool
+        ensures { result ≡ clear (world T.cells self.now) section.number }
     {
-        match self.track.state(section) {
-            Ok(SectionState::Vacant) => !self.frame.closed_at(section),
-            _ => false,
-        }
+        self.track.is_vacant(section.number) && !self.frame.closed_at(section.number)
     }
 
-    // How many blocks are clear one after the other, from a distance on.
-    fn run_ahead(&self, station: Station, distance: u32) -> u32
-        requires { 1 ≤ distance }
-        ensures is { result ≡ run_ahead (world T.cells self.now) station distance }
-        ensures within { result ≤ (blocks (world T.cells self.now) + 1) - distance }
+    // The block so many places on from a station is clear.
+    fn is_clear_ahead(&self, station: Station, distance: u32) -> bool
+        requires low { 1 ≤ distance }
+        requires high { distance ≤ blocks (world T.cells self.now) }
+        ensures { result ≡ clear (world T.cells self.now)
+            (place_from (blocks (world T.cells self.now)) station distance) }
     {
-        let blocks = self.frame.blocks();
-        let mut run = 0;
-        for at in distance..blocks + 1 {
-            if !self.is_clear(place_from(blocks, station, at)) {
-                return run;
-            }
-            run += 1;
-        }
-        run
+        self.is_clear(Section {
+            number: place_from(self.frame.blocks(), station, distance),
+        })
     }
 
-    // Every block is clear where the run from one end is as long as the line.
+    // How many blocks are clear one after the other ahead of a signal.
+    fn run_ahead(&self, at: Signal) -> u32
+        ensures is { result ≡ run_ahead (world T.cells self.now) at.station at.distance }
+        ensures within { result ≤ (blocks (world T.cells self.now) + 1) - at.distance }
+    {
+        (at.distance..=self.frame.blocks())
+            .take_while(|&distance| self.is_clear_ahead(at.station, distance))
+            .count() as u32
+    }
+
+    // Every block, from A to B.
     pub(crate) fn line_clear(&self) -> bool
         ensures { result ≡ all_clear (world T.cells self.now) (blocks (world T.cells self.now)) }
     {
-        self.run_ahead(Station::EndA, 1) == self.frame.blocks()
+        (1..=self.frame.blocks()).all(|block| self.is_clear_ahead(Station::EndA, block))
     }
 
     fn starter_count(&self, station: Station) -> u32
@@ -71,7 +70,10 @@ impl<T: Track, L: Lamps> Line<T, L> {
         ensures within { result ≤ (blocks (world T.cells self.now) + 1) - 1 }
     {
         let levers = self.frame.levers(station);
-        let run = self.run_ahead(station, 1);
+        let run = self.run_ahead(Signal {
+            station,
+            distance: 1,
+        });
         if levers.sends && levers.starter != 0 && self.frame.reach() <= run {
             run
         } else {
@@ -79,74 +81,61 @@ impl<T: Track, L: Lamps> Line<T, L> {
         }
     }
 
-    fn block_count(&self, station: Station, distance: u32) -> u32
-        requires { 1 ≤ distance }
-        ensures is { result ≡ block_count (world T.cells self.now) station distance }
-        ensures within { result ≤ (blocks (world T.cells self.now) + 1) - distance }
+    fn block_count(&self, at: Signal) -> u32
+        ensures is { result ≡ block_count (world T.cells self.now) at.station at.distance }
+        ensures within { result ≤ (blocks (world T.cells self.now) + 1) - at.distance }
     {
-        if self.frame.levers(station).sends {
-            self.run_ahead(station, distance)
+        if self.frame.levers(at.station).sends {
+            self.run_ahead(at)
         } else {
             0
         }
     }
 
+    // One section, the road that the home is reversed for, or none.
     fn home_count(&self, station: Station) -> u32
         ensures { result ≡ home_count (world T.cells self.now) station }
     {
-        let home = self.frame.levers(station.other()).home;
-        if !self.frame.levers(station).sends {
-            return 0;
-        }
-        if home == 0 {
-            return 0;
-        }
-        if self.is_clear(road_section(station.other(), home)) {
-            1
-        } else {
-            0
-        }
+        let home = self.frame.home_road(station.other());
+        let cleared = self.frame.levers(station).sends
+            && home.number != 0
+            && self.is_clear(home.section());
+        u32::from(cleared)
     }
 
-    // The clear sections ahead of the signal at a distance.
-    fn count_at(&self, station: Station, distance: u32) -> u32
-        requires { 1 ≤ distance }
-        ensures is { result ≡ count_at (world T.cells self.now) station distance }
-        ensures within { distance ≤ blocks (world T.cells self.now)
-            → result ≤ (blocks (world T.cells self.now) + 1) - distance }
+    // The clear sections ahead of a signal.
+    fn count_at(&self, at: Signal) -> u32
+        ensures is { result ≡ count_at (world T.cells self.now) at.station at.distance }
+        ensures within { at.distance ≤ blocks (world T.cells self.now)
+            → result ≤ (blocks (world T.cells self.now) + 1) - at.distance }
     {
-        if distance == 1 {
-            self.starter_count(station)
-        } else if distance <= self.frame.blocks() {
-            self.block_count(station, distance)
+        if at.distance == 1 {
+            self.starter_count(at.station)
+        } else if at.distance <= self.frame.blocks() {
+            self.block_count(at)
         } else {
-            self.home_count(station)
+            self.home_count(at.station)
         }
     }
 
     // Their metres: of those blocks, or of the home's road.
-    fn metres_at(&self, station: Station, distance: u32) -> u32
-        requires { 1 ≤ distance }
-        ensures { result ≡ metres_at (world T.cells self.now) station distance }
+    fn metres_at(&self, at: Signal) -> u32
+        ensures { result ≡ metres_at (world T.cells self.now) at.station at.distance }
     {
-        if distance <= self.frame.blocks() {
-            let count = self.count_at(station, distance);
-            return self.frame.block_metres(station, distance, count);
+        if at.distance <= self.frame.blocks() {
+            return self.frame.block_metres(at, self.count_at(at));
         }
-        if self.home_count(station) == 0 {
+        if self.home_count(at.station) == 0 {
             return 0;
         }
-        let far = station.other();
-        self.frame.road_metres(far, self.frame.levers(far).home)
+        let far = at.station.other();
+        self.frame.road_metres(self.frame.home_road(far))
     }
 
-    pub(crate) fn aspect_at(&self, station: Station, distance: u32) -> Aspect
-        requires { 1 ≤ distance }
+    pub(crate) fn aspect_at(&self, at: Signal) -> Aspect
         ensures { result ≡ aspect_at (L.shows self.now.lamps) (world T.cells self.now)
-            station distance }
+            at.station at.distance }
     {
-        let count = self.count_at(station, distance);
-        let metres = self.metres_at(station, distance);
-        self.lamps.aspect(count, metres)
+        self.lamps.aspect(self.count_at(at), self.metres_at(at))
     }
 }

@@ -2,6 +2,7 @@
 ghost use Rattle.std.specs.Prelude.{◌≡◌};
 
 // Given for a closed block, and spent by handing it in. It cannot be let go in any other way, nor copied.
+#[derive(PartialEq, Eq, Debug)]
 pub struct Slip {
     line: u32,
     block: u32,

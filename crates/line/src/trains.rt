@@ -3,15 +3,16 @@ ghost use Rattle.std.specs.Prelude.{◌≡◌, ◌<◌, ◌≤◌, true, false, 
 ghost use Rattle.rules.specs.Calls.{put_on, withdraw, advance, follow, verdict, standing, some_station, at_stop};
 ghost use Rattle.rules.specs.Lines.{bare, blocks};
 ghost use Rattle.rules.specs.Table.{answer};
-ghost use Rattle.line.specs.Exact.{Ends};
 ghost use Rattle.line.specs.Keeping.{train_kept};
 ghost use Rattle.line.specs.Moves.{advancing};
+ghost use Rattle.line.specs.Works.{Works};
 ghost use Rattle.line.specs.Worlds.{world};
 
 use crate::Line;
+use crate::frame::questions::Signal;
 use crate::frame::trains::{Move, legal_card, standing};
-use crate::places::{road_section, station_of};
 use lamps::Lamps;
+use rules::aspect::Aspect;
 use rules::line::Train;
 use rules::refusal::Refusal;
 use track::Track;
@@ -25,25 +26,21 @@ impl<T: Track, L: Lamps> Line<T, L> {
         station: u32,
         road: u32,
     ) -> Result<(), Refusal>
-        ensures ends { Ends (L.shows self.old.lamps) T.mark (world T.cells self.old)
-            (put_on number axles station road) tt result (world T.cells self.new) }
-        ensures lamps { self.new.lamps ≡ self.old.lamps }
+        ensures { Works L.shows T.mark T.cells self.old (put_on number axles station road) tt result self.new }
     {
         let train = self.check_put_on(number, axles, station, road)?;
         if self.frame.is_full() {
             return Err(Refusal::NotClear);
         }
-        self.track
-            .enter(road_section(train.from, train.road), train.axles)?;
+        let section = self.frame.section_of(train, 0);
+        self.track.enter(section.number, train.axles)?;
         self.frame.push_train(train);
         Ok(())
     }
 
     // Takes a train that stands in a road off the line.
     pub fn withdraw(&mut self, number: u32) -> Result<(), Refusal>
-        ensures ends { Ends (L.shows self.old.lamps) T.mark (world T.cells self.old)
-            (withdraw number) tt result (world T.cells self.new) }
-        ensures lamps { self.new.lamps ≡ self.old.lamps }
+        ensures { Works L.shows T.mark T.cells self.old (withdraw number) tt result self.new }
     {
         let gone = self.frame.check_withdraw(number)?;
         self.track.leave(gone.section, gone.axles)?;
@@ -53,9 +50,7 @@ impl<T: Track, L: Lamps> Line<T, L> {
 
     // Moves a train's rear one place towards its front.
     pub fn follow(&mut self, number: u32) -> Result<(), Refusal>
-        ensures ends { Ends (L.shows self.old.lamps) T.mark (world T.cells self.old)
-            (follow number) tt result (world T.cells self.new) }
-        ensures lamps { self.new.lamps ≡ self.old.lamps }
+        ensures { Works L.shows T.mark T.cells self.old (follow number) tt result self.new }
     {
         let moved = self.frame.check_follow(number)?;
         self.track.leave(moved.section, moved.axles)?;
@@ -65,9 +60,7 @@ impl<T: Track, L: Lamps> Line<T, L> {
 
     // Moves a train's front one place on, past a signal that shows proceed.
     pub fn advance(&mut self, number: u32) -> Result<(), Refusal>
-        ensures ends { Ends (L.shows self.old.lamps) T.mark (world T.cells self.old)
-            (advance number) tt result (world T.cells self.new) }
-        ensures lamps { self.new.lamps ≡ self.old.lamps }
+        ensures { Works L.shows T.mark T.cells self.old (advance number) tt result self.new }
     {
         let moved = self.check_advance(number)?;
         self.track.enter(moved.section, moved.axles)?;
@@ -90,16 +83,8 @@ impl<T: Track, L: Lamps> Line<T, L> {
         ensures kept { IfOk result (λ train. train_kept (blocks (world T.cells self.now)) train ≡ true) }
         ensures laid { OnOk result (bare (world T.cells self.now) ≡ false) }
     {
-        if !self.frame.is_laid() {
-            return Err(Refusal::NotLaid);
-        }
-        let Some(station) = station_of(station) else {
-            return Err(Refusal::NoStation);
-        };
-        if road == 0 {
-            return Err(Refusal::NoRoad);
-        }
-        if self.frame.roads(station) < road {
+        let station = self.frame.station(station)?;
+        if road == 0 || self.frame.roads(station) < road {
             return Err(Refusal::NoRoad);
         }
         if !legal_card(number, axles) {
@@ -108,10 +93,11 @@ impl<T: Track, L: Lamps> Line<T, L> {
         if self.frame.find(number).is_some() {
             return Err(Refusal::NumberInUse);
         }
-        if !self.is_clear(road_section(station, road)) {
+        let train = standing(number, axles, station, road);
+        if !self.is_clear(self.frame.section_of(train, 0)) {
             return Err(Refusal::NotClear);
         }
-        Ok(standing(number, axles, station, road))
+        Ok(train)
     }
 
     // The signal ahead shows stop, or the train stands in a road that the starter is not reversed for.
@@ -119,9 +105,12 @@ impl<T: Track, L: Lamps> Line<T, L> {
         requires { train.front ≤ 16 }
         ensures { result ≡ at_stop (L.shows self.now.lamps) (world T.cells self.now) train }
     {
-        let aspect = self.aspect_at(train.from, train.front + 1);
+        let aspect = self.aspect_at(Signal {
+            station: train.from,
+            distance: train.front + 1,
+        });
         let starter = self.frame.levers(train.from).starter;
-        aspect.number() == 0 || train.front == 0 && starter != train.road
+        aspect == Aspect::Stop || train.front == 0 && starter != train.road
     }
 
     // Whether a train's front may go on, and what that comes to.
@@ -133,13 +122,7 @@ impl<T: Track, L: Lamps> Line<T, L> {
         ensures kept { IfOk result
             (λ move. train_kept (blocks (world T.cells self.now)) move.train ≡ true) }
     {
-        if !self.frame.is_laid() {
-            return Err(Refusal::NotLaid);
-        }
-        let Some(index) = self.frame.find(number) else {
-            return Err(Refusal::NoTrain);
-        };
-        let train = self.frame.train(index);
+        let (index, train) = self.frame.running(number)?;
         if train.front == self.frame.blocks() + 1 {
             return Err(Refusal::RoadsEnd);
         }
@@ -149,7 +132,7 @@ impl<T: Track, L: Lamps> Line<T, L> {
         let moved = self.frame.front_moved(train);
         Ok(Move {
             index,
-            section: self.frame.section_of(moved, train.front + 1),
+            section: self.frame.section_of(moved, train.front + 1).number,
             axles: train.axles,
             train: moved,
         })

@@ -1,12 +1,8 @@
 // One call in, its answer out: everything that a program does to a line.
-ghost use Rattle.std.specs.Prelude.{◌≡◌};
-ghost use Rattle.line.specs.Exact.{exact_answer, exact_after};
-ghost use Rattle.line.specs.History.{GoesOn};
-ghost use Rattle.line.specs.Told.{asked, meant, SlipKept};
-ghost use Rattle.line.specs.Worlds.{world};
+ghost use Rattle.line.specs.Worked.{Worked};
 
 use crate::Line;
-use crate::calls::{Answer, Call, done_or, named_or, painted_or, shown_or, slip_or, taken_or};
+use crate::calls::{Answer, Call};
 use lamps::Lamps;
 use track::Track;
 
@@ -14,48 +10,29 @@ impl<T: Track, L: Lamps> Line<T, L> {
     // Whatever calls came before, on a line that was new, and in whatever order: the answer is that of the rules, and
     // so is what the call leaves, and of that every promise holds.
     pub fn work(&mut self, call: Call) -> Answer
-        ensures answer { meant result ≡ exact_answer (L.shows self.old.lamps) T.mark
-            (world T.cells self.old) (asked call) }
-        ensures after { world T.cells self.new ≡ exact_after (L.shows self.old.lamps) T.mark
-            (world T.cells self.old) (asked call) }
-        ensures lamps { self.new.lamps ≡ self.old.lamps }
-        ensures slip { SlipKept call result }
-        ensures history { GoesOn (L.shows self.old.lamps) T.mark (world T.cells self.old)
-            (asked call) (meant result) (world T.cells self.new) }
-    {
-        self.carry_out(call)
-    }
-
-    // The same without the history, which would otherwise be owed once an arm.
-    fn carry_out(&mut self, call: Call) -> Answer
-        ensures answer { meant result ≡ exact_answer (L.shows self.old.lamps) T.mark
-            (world T.cells self.old) (asked call) }
-        ensures after { world T.cells self.new ≡ exact_after (L.shows self.old.lamps) T.mark
-            (world T.cells self.old) (asked call) }
-        ensures lamps { self.new.lamps ≡ self.old.lamps }
-        ensures slip { SlipKept call result }
+        ensures { Worked L.shows T.mark T.cells self.old call result self.new }
     {
         match call {
-            Call::Lay { laying, plan } => done_or(self.lay(laying, plan.as_slice())),
-            Call::Direction { station, send } => done_or(self.direction(station, send)),
-            Call::Starter { station, road } => done_or(self.starter(station, road)),
-            Call::Home { station, road } => done_or(self.home(station, road)),
+            Call::Lay { laying, plan } => self.lay(laying, plan.as_slice()).into(),
+            Call::Direction { station, send } => self.direction(station, send).into(),
+            Call::Starter { station, road } => self.starter(station, road).into(),
+            Call::Home { station, road } => self.home(station, road).into(),
             Call::PutOn {
                 number,
                 axles,
                 station,
                 road,
-            } => done_or(self.put_on(number, axles, station, road)),
-            Call::Withdraw { number } => done_or(self.withdraw(number)),
-            Call::Advance { number } => done_or(self.advance(number)),
-            Call::Follow { number } => done_or(self.follow(number)),
-            Call::Fail { section } => done_or(self.fail(section)),
-            Call::Mend { section } => done_or(self.mend(section)),
-            Call::Close { block } => slip_or(self.close(block)),
-            Call::HandIn { slip } => taken_or(self.hand_in(slip)),
-            Call::Signal { station, place } => shown_or(self.signal(station, place)),
-            Call::SectionNamed { name } => named_or(self.section_named(name)),
-            Call::Paint { bytes } => painted_or(self.painted(bytes)),
+            } => self.put_on(number, axles, station, road).into(),
+            Call::Withdraw { number } => self.withdraw(number).into(),
+            Call::Advance { number } => self.advance(number).into(),
+            Call::Follow { number } => self.follow(number).into(),
+            Call::Fail { section } => self.fail(section).into(),
+            Call::Mend { section } => self.mend(section).into(),
+            Call::Close { block } => self.close(block).into(),
+            Call::HandIn { slip } => self.hand_in(slip).into(),
+            Call::Signal { station, place } => self.signal(station, place).into(),
+            Call::SectionNamed { name } => self.section_named(name).into(),
+            Call::Paint { bytes } => self.painted(bytes).into(),
         }
     }
 }

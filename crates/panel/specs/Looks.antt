@@ -1,12 +1,17 @@
 -- What comes of looks at a panel under test. A look is what is found where a panel shows these bytes.
-use Rattle.std.specs.Prelude.{ℕ, cond, List, length, Ok, Err, Result, nat_lt}
+use Rattle.std.specs.Prelude.{ℕ, cond, List, ◌++◌, length, Ok, Err, Result, nat_lt, codes, decimal}
 use Rattle.panel.specs.LampTests.{panel_bytes, under_test}
 use Rattle.panel.specs.declared.fitting.Fault.{Fault}
-use Rattle.panel.specs.declared.fitting.Fault.TheVariants.{ShortPanel}
+use Rattle.panel.specs.declared.fitting.Fault.TheVariants.{DarkLamp, ShortPanel}
 
 -- nothing wrong, or a fault
 abbrev pub Found : Type 0
 Found = Result (Unit {0}) Fault
+
+-- a fault as people read it
+abbrev pub fault_text : Fault → List ℕ
+fault_text (DarkLamp byte) = codes "lamp " ++ (decimal byte ++ codes " stays dark")
+fault_text ShortPanel = codes "short panel"
 
 abbrev until_fault : Found → Found → Found
 until_fault (Ok _) second = second

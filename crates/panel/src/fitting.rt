@@ -1,9 +1,11 @@
 // A fitter's looks at a panel under test. Whichever way the test ends, the panel then shows what it showed before.
-ghost use Rattle.std.specs.Prelude.{◌≡◌, ℕ, List};
+ghost use Rattle.std.specs.Prelude.{◌≡◌, ℕ, List, Some};
 ghost use Rattle.panel.specs.LampTests.{under_test};
-ghost use Rattle.panel.specs.Looks.{Found, in_turn, if_whole, lit_and_after};
+ghost use Rattle.panel.specs.Looks.{Found, in_turn, if_whole, lit_and_after, fault_text};
 
 use crate::{LampTest, PANEL_BYTES};
+use std::error::Error;
+use std::fmt;
 
 #[derive(Clone, Copy, PartialEq, Eq, Debug)]
 pub enum Fault {
@@ -12,6 +14,19 @@ pub enum Fault {
     // The panel has fewer bytes than painting writes.
     ShortPanel,
 }
+
+impl fmt::Display for Fault {
+    ghost output = { λ x. Some (fault_text x) };
+
+    fn fmt<W: fmt::Write>(&self, f: &mut fmt::Formatter<W>) -> fmt::Result {
+        match *self {
+            Fault::DarkLamp(byte) => write!(f, "lamp {byte} stays dark"),
+            Fault::ShortPanel => f.write_str("short panel"),
+        }
+    }
+}
+
+impl Error for Fault {}
 
 // Whoever looks at a panel: a fitter, a camera.
 pub trait Watcher {

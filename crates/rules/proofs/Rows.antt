@@ -1,6 +1,6 @@
 -- How one row after another decides a call.
 use Rattle.std.proofs.Common.{◌≡◌, ℕ, Bool, true, false, List, [], ◌∷◌, is_some, Some, None, Option, refl, arith}
-use Rattle.rules.specs.Table.{Row, topmost}
+use Rattle.rules.specs.Table.{Row, topmost, after}
 use Rattle.rules.specs.declared.refusal.Refusal.{Refusal}
 
 -- where the verdict is none, each row in turn does not hold
@@ -23,3 +23,8 @@ none_hold (row ∷ rows) h =
 pub some_row : (met : Option Refusal) → (met ≡ None → ⊥) → is_some met ≡ true
 some_row None h = absurd (h refl)
 some_row (Some refusal) h = refl
+
+-- a call that changes nothing leaves what was there, turned down or not
+pub nothing_altered : {X : Type 0} (verdict : Option Refusal) (old : X) → old ≡ after verdict old old
+nothing_altered None old = refl
+nothing_altered (Some refusal) old = refl

@@ -100,6 +100,14 @@ module _ (mark : ℕ → ℕ) (cells : List Cell) (s : ℕ) (sized : length cell
   still_sized : (t : ℕ) (cell : Cell) → length (with_cell cells t cell) ≡ 24
   still_sized t cell = length-set cells (t - 1) cell ∙ sized
 
+  -- failing and mending change the order and nothing that is held
+  order_put : (t : ℕ) (failed : Bool) → not (legal_section t) ≡ false
+      → Agrees mark (cell_of (with_cell cells t (with_failed (cell_of cells t) failed)) s)
+      (cond (eqb t s) (record { inside = seen.inside; failed = failed }) seen)
+  order_put t failed passed =
+      at_one t (λ cell. with_failed cell failed) (record { inside = seen.inside; failed = failed }) passed
+      (λ same. record { held = agrees.held; order = refl; legal = agrees.legal })
+
   carried_out : (call : TrackCall) → track_verdict mark cells call ≡ None → Under call None
   carried_out (State t) none = record { length_24 = sized; agree = agrees }
   carried_out (Enter t n) none =
@@ -124,21 +132,14 @@ module _ (mark : ℕ → ℕ) (cells : List Cell) (s : ℕ) (sized : length cell
         agree = at_one t take (record { inside = None; failed = seen.failed }) passed.0
             (λ same. record { held = omega (arith, rw same at marked); order = agrees.order; legal = refl });
       }
-  carried_out (Fail t) none =
-      let passed = none_hold (track_rows mark cells (Fail t)) none in
-      record {
-        length_24 = still_sized t (with_failed (cell_of cells t) true);
-        agree = at_one t (λ cell. with_failed cell true) (record { inside = seen.inside; failed = true }) passed.0
-            (λ same. record { held = agrees.held; order = refl; legal = agrees.legal });
-      }
-  carried_out (Mend t) none =
-      let passed = none_hold (track_rows mark cells (Mend t)) none in
-      record {
-        length_24 = still_sized t (with_failed (cell_of cells t) false);
-        agree =
-            at_one t (λ cell. with_failed cell false) (record { inside = seen.inside; failed = false }) passed.0
-            (λ same. record { held = agrees.held; order = refl; legal = agrees.legal });
-      }
+  carried_out (Fail t) none = record {
+    length_24 = still_sized t (with_failed (cell_of cells t) true);
+    agree = order_put t true (none_hold (track_rows mark cells (Fail t)) none).0;
+  }
+  carried_out (Mend t) none = record {
+    length_24 = still_sized t (with_failed (cell_of cells t) false);
+    agree = order_put t false (none_hold (track_rows mark cells (Mend t)) none).0;
+  }
 
   -- the verdict as it falls
   step : (call : TrackCall) → Under call (track_verdict mark cells call)

@@ -1,7 +1,8 @@
 -- Every call and question of a line: the rows that it can meet, what it changes, and what it answers.
 use Rattle.std.specs.Prelude.{ℕ, zero, suc, ◌+◌, ◌-◌, Bool, true, false, cond, not, ◌&&◌, ◌||◌, List, [], ◌∷◌, ◌++◌}
 use Rattle.std.specs.Prelude.{length, take, drop, is_some, Some, None, Option, ◌==◌, nat_lt, slice_index_or}
-use Rattle.std.specs.Prelude.{slice_set}
+use Rattle.std.specs.Prelude.{slice_set, Result}
+use Rattle.std.specs.List.{list_all, list_any}
 use Rattle.std.specs.Option.{unwrap_or}
 use Rattle.rules.specs.Aspects.{aspect_number}
 use Rattle.rules.specs.Detection.{legal_axles, track_after, cell_of}
@@ -10,7 +11,7 @@ use Rattle.rules.specs.Lines.{clear, laying_of, section_of, wholly_in}
 use Rattle.rules.specs.Searches.{search_by}
 use Rattle.rules.specs.Signals.{Shows, has_signal, aspect_at}
 use Rattle.rules.specs.Stations.{station_of, station_number, other_end, road_section}
-use Rattle.rules.specs.Table.{Row, topmost, after, within}
+use Rattle.rules.specs.Table.{Row, topmost, answer, after, within}
 use Rattle.rules.specs.declared.detection.Cell.{Cell}
 use Rattle.rules.specs.declared.detection.TrackCall.{TrackCall}
 use Rattle.rules.specs.declared.detection.TrackCall.TheVariants.{Enter, Leave, Fail, Mend}
@@ -78,8 +79,7 @@ abbrev pub same_end : Station → Station → Bool
 same_end a b = station_number a == station_number b
 
 abbrev pub any_train : (Train → Bool) → List Train → Bool
-any_train p [] = false
-any_train p (train ∷ trains) = p train || any_train p trains
+any_train p trains = list_any p trains
 
 -- the same of one train: its rear in the station and its front elsewhere
 abbrev pub half_out : Station → Train → Bool
@@ -136,12 +136,10 @@ abbrev pub legal_entry : PlanEntry → Bool
 legal_entry entry = within 1 9999 entry.name && within 100 9999 entry.metres
 
 abbrev pub legal_entries : List PlanEntry → Bool
-legal_entries [] = true
-legal_entries (entry ∷ entries) = legal_entry entry && legal_entries entries
+legal_entries plan = list_all legal_entry plan
 
 abbrev pub has_name : ℕ → List PlanEntry → Bool
-has_name name [] = false
-has_name name (entry ∷ entries) = entry.name == name || has_name name entries
+has_name name plan = list_any (λ entry. entry.name == name) plan
 
 abbrev pub names_differ : List PlanEntry → Bool
 names_differ [] = true
@@ -177,6 +175,10 @@ not_laid line = (NotLaid, bare line)
 
 abbrev pub no_station : ℕ → Row
 no_station n = (NoStation, not (is_some (station_of n)))
+
+-- the station of a number, or that row
+abbrev pub station_called : ℕ → Result Station Refusal
+station_called n = answer (topmost (no_station n ∷ [])) (some_station n)
 
 abbrev pub no_train_of : Line → ℕ → Row
 no_train_of line number = (NoTrain, not (is_some (train_index line number)))

@@ -1,6 +1,6 @@
 -- The meaning of a track, and what each of its calls answers and leaves.
 use Rattle.std.specs.Prelude.{◌≡◌, ℕ, ◌+◌, ◌-◌, Bool, true, false, cond, not, List, [], ◌∷◌, ◌++◌, replicate, Some}
-use Rattle.std.specs.Prelude.{None, codes, decimal, Option, Result, ◌==◌, nat_lt, slice_index_or, slice_set}
+use Rattle.std.specs.Prelude.{None, Ok, Err, codes, decimal, Option, Result, ◌==◌, nat_lt, slice_index_or, slice_set}
 use Rattle.rules.specs.Table.{Row, row_number, row_word, InTableOrder, topmost, answer, outcome, after, within}
 use Rattle.rules.specs.declared.refusal.Refusal.{Refusal}
 use Rattle.rules.specs.declared.refusal.Refusal.TheVariants.{NoSection, BadCard, NotClear, SoAlready, WrongMark}
@@ -128,6 +128,15 @@ as_answer (Some refusal) result = TurnedDown refusal
 
 abbrev pub track_answer : (ℕ → ℕ) → List Cell → TrackCall → TrackAnswer
 track_answer mark cells call = as_answer (track_verdict mark cells call) (track_result cells call)
+
+-- what one call of a track returns, as such an answer
+abbrev pub done_or : Result (Unit {0}) Refusal → TrackAnswer
+done_or (Ok done) = Done
+done_or (Err refusal) = TurnedDown refusal
+
+abbrev pub reads_or : Result SectionState Refusal → TrackAnswer
+reads_or (Ok state) = Reads state
+reads_or (Err refusal) = TurnedDown refusal
 
 -- The cases of an answer by number, each with the number of what it holds, and as people read it.
 abbrev pub answer_number : TrackAnswer → ℕ

@@ -15,6 +15,7 @@ pub enum Aspect {
 }
 
 impl Aspect {
+    // The number that the case is declared with.
     pub fn number(self) -> u8
         ensures { result ≡ aspect_number self }
     {

@@ -1,7 +1,7 @@
 // What a track is told and what it answers.
 ghost use Rattle.std.specs.Prelude.{◌≡◌, Some};
 ghost use Rattle.rules.specs.Detection.{state_number, state_word, state_of, TrackRowsInTableOrder};
-ghost use Rattle.rules.specs.Detection.{answer_number, answer_value, answer_text};
+ghost use Rattle.rules.specs.Detection.{answer_number, answer_value, answer_text, done_or, reads_or};
 
 use crate::refusal::Refusal;
 use std::fmt;
@@ -23,6 +23,7 @@ pub enum SectionState {
 }
 
 impl SectionState {
+    // The number that the case is declared with.
     pub fn number(self) -> u8
         ensures { result ≡ state_number self }
     {
@@ -72,7 +73,8 @@ pub enum TrackCall {
     Mend { section: u32 },
 }
 
-// What a track answers to a call.
+// What a track answers to a call. One enum and not a Result: what is answered has a number, a value and words, and so
+// has the row that turns a call down.
 #[derive(Clone, Copy, PartialEq, Eq, Debug)]
 pub enum TrackAnswer {
     // The state that was asked for.
@@ -103,6 +105,24 @@ impl TrackAnswer {
             TrackAnswer::Done => None,
             TrackAnswer::TurnedDown(refusal) => Some(refusal.row()),
         }
+    }
+}
+
+// A call that has nothing to tell.
+impl From<Result<(), Refusal>> for TrackAnswer {
+    ghost from_gives = { λ res answer. answer ≡ done_or res };
+
+    fn from(res: Result<(), Refusal>) -> Self {
+        res.map_or_else(TrackAnswer::TurnedDown, |()| TrackAnswer::Done)
+    }
+}
+
+// A section asked for its state.
+impl From<Result<SectionState, Refusal>> for TrackAnswer {
+    ghost from_gives = { λ res answer. answer ≡ reads_or res };
+
+    fn from(res: Result<SectionState, Refusal>) -> Self {
+        res.map_or_else(TrackAnswer::TurnedDown, TrackAnswer::Reads)
     }
 }
 

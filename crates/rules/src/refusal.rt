@@ -2,6 +2,7 @@
 ghost use Rattle.std.specs.Prelude.{◌≡◌, Some};
 ghost use Rattle.rules.specs.Table.{row_number, row_word};
 
+use std::error::Error;
 use std::fmt;
 
 // Why a call was turned down: one case for each row of the table, from the top.
@@ -35,7 +36,7 @@ pub enum Refusal {
 }
 
 impl Refusal {
-    // The number of the row.
+    // The number of the row, which the case is declared with.
     pub fn row(self) -> u8
         ensures { result ≡ row_number self }
     {
@@ -76,3 +77,5 @@ impl fmt::Display for Refusal {
         })
     }
 }
+
+impl Error for Refusal {}

@@ -1,13 +1,10 @@
 -- What a signal at the beginning of the stretch has ahead of it, and what each lamp set shows for it.
-use Rattle.std.specs.Prelude.{ℕ, zero, suc, ◌+◌, min, Bool, cond, ◌&&◌, List, [], ◌∷◌, take, sum, ◌==◌}
+use Rattle.std.specs.Prelude.{ℕ, zero, suc, ◌+◌, min, cond, List, [], ◌∷◌, take, sum}
 use Rattle.rules.specs.Aspects.{lamp_set_shows, cab_shows}
-use Rattle.rules.specs.Detection.{cell_of, state_of, state_number, legal_section}
+use Rattle.track.specs.Cells.{reads_vacant}
 use Rattle.rules.specs.declared.detection.Cell.{Cell}
 use Rattle.rules.specs.declared.aspect.Aspect.{Aspect}
 use Rattle.rules.specs.declared.aspect.LampSet.TheVariants.{Two, Three, Four, Five}
-
-abbrev pub reads_vacant : List Cell → ℕ → Bool
-reads_vacant cells section = legal_section section && state_number (state_of (cell_of cells section)) == 0
 
 -- how many of n sections, from the first on, read vacant one after the other
 abbrev pub vacant_from : List Cell → ℕ → ℕ → ℕ

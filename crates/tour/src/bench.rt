@@ -15,7 +15,7 @@ pub struct Bench {
 }
 
 // What both answered to one call.
-#[derive(Clone, Copy)]
+#[derive(Clone, Copy, PartialEq, Eq, Debug)]
 pub struct Both {
     pub circuits: TrackAnswer,
     pub counter: TrackAnswer,

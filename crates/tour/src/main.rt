@@ -78,9 +78,7 @@ fn tour(rt: &HostRuntime) -> anyhow::Result<()> {
         circuits: TrackCircuits::new(),
         counter: AxleCounter::new(),
     };
-    let mut number = 0u32;
-    for step in PASSAGE {
-        number = number.saturating_add(1);
+    for (number, step) in (1u32..).zip(PASSAGE) {
         let note = step.note;
         println!(rt; "{number:>3}. {note}")?;
         take_step(rt, &mut bench, step.call)?;

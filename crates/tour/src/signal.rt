@@ -1,10 +1,9 @@
 // The signal that guards block 1: what is clear ahead of it, and what its lamps show.
-ghost use Rattle.std.specs.Prelude.{◌≡◌};
-ghost use Rattle.tour.specs.Ahead.{reads_vacant, vacant_from, metres_of, heads_show};
+ghost use Rattle.std.specs.Prelude.{◌≡◌, ◌^◌, ◌<◌, sum};
+ghost use Rattle.tour.specs.Ahead.{vacant_from, metres_of, heads_show};
 
 use lamps::{CabSignal, Lamps};
 use rules::aspect::{Aspect, LampSet};
-use rules::detection::SectionState;
 use track::Track;
 
 // The stretch of the tour has blocks 1 to 3.
@@ -13,36 +12,29 @@ pub const BLOCKS: u32 = 3;
 // Their metres: one block, two and three give the cab signal three aspects.
 const LENGTHS: [u32; 3] = [100, 150, 250];
 
-fn is_vacant<T: Track>(track: &T, section: u32) -> bool
-    ensures { result ≡ reads_vacant (T.cells track.now) section }
-{
-    match track.state(section) {
-        Ok(SectionState::Vacant) => true,
-        _ => false,
-    }
-}
-
 // How many of so many sections, from section 1 on, read vacant one after the other.
 pub fn vacant_ahead<T: Track>(track: &T, sections: u32) -> u32
     ensures { result ≡ vacant_from (T.cells track.now) 1 sections }
 {
-    for passed in 0..sections {
-        if !is_vacant(track, passed + 1) {
-            return passed;
-        }
-    }
-    sections
+    (0..sections)
+        .find(|&passed| !track.is_vacant(passed + 1))
+        .unwrap_or(sections)
+}
+
+// Their sum, where it fits.
+fn total(metres: &[u32]) -> u32
+    requires { sum metres.now < 2 ^ 32 }
+    ensures { result ≡ sum metres.now }
+{
+    metres.iter().sum()
 }
 
 // The metres of so many blocks from block 1 on.
+#[tactic(auto, using(crate::proofs::Metres::part_short))]
 pub fn metres_ahead(clear: u32) -> u32
     ensures { result ≡ metres_of clear }
 {
-    let mut metres = 0;
-    for block in 0..clear.min(BLOCKS) {
-        metres += LENGTHS[block as usize];
-    }
-    metres
+    total(&LENGTHS[..clear.min(BLOCKS) as usize])
 }
 
 // What a head of two, three, four and five lamps and the cab signal show.

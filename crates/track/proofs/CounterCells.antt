@@ -7,7 +7,7 @@ use Rattle.track.specs.Cells.{cells_by, set_held, set_failed}
 use Rattle.track.specs.Counts.{counted, counter}
 use Rattle.track.specs.declared.axles.AxleCell.{AxleCell}
 use Rattle.track.specs.declared.axles.AxleCell.TheVariants.{Empty}
-use Rattle.track.specs.Places.{changed_at}
+use Rattle.track.specs.Places.{changed_at, read_at}
 
 module _ (counts : List AxleCell) (failed : List Bool) (p : ℕ) (l : p < 24) where
   abbrev before : ℕ → Cell
@@ -26,3 +26,6 @@ module _ (counts : List AxleCell) (failed : List Bool) (p : ℕ) (l : p < 24) wh
       changed_at before (counter counts (set failed p b)) p (λ old. with_failed old b) l
       (ap (with_failed (before p)) (get_or-set_same failed p b false within))
       (λ k h n. ap (with_failed (before k)) (get_or-set_other failed p k b false n))
+
+-- what there is to know of one section counted or changed
+pub ruleset one_count = (read_at, count_written, failed_written)

@@ -1,82 +1,44 @@
 -- The bits of a word after a mask was laid on it.
-use Rattle.std.proofs.Common.{◌≡◌, ℕ, zero, suc, ◌/◌, ◌%◌, ◌^◌, ◌<◌, Bool, true, false, cond, ◌&&◌, eqb, ltb, refl}
-use Rattle.std.proofs.Common.{ap, ◌∙◌, inl, inr, arith}
-use lib.Bits.{bit_and, bit_or, or_shr, or_mod, and_shr, and_mod, or_zero_r, and_mask, or_lt, and_le_l}
-use Rattle.std.proofs.lemmas.Nat.{mod_below}
-use Rattle.std.proofs.lemmas.Bool.{eqb-true, ltb-true, and_parts, cases_order}
-use Rattle.track.specs.Words.{bit, one_bit, other_bits, Written}
+use Rattle.std.proofs.Common.{◌≡◌, ℕ, ◌%◌, ◌^◌, ◌*◌, ◌-◌, ◌<◌, eqb, refl, w32, ◌∙◌, inl, inr, sym, arith}
+use Rattle.std.specs.Int.{bit_at}
+use Rattle.std.specs.Prelude.{bit_and, bit_or}
+use Rattle.std.proofs.lemmas.Nat.{or_lt, and_le_l, one_shl, pow_below}
+use Rattle.std.proofs.lemmas.Nat.Bits.{bit_at_set_same, bit_at_set_other, bit_at_clear_same, bit_at_clear_other}
+use Rattle.std.proofs.lemmas.Bool.{cond-true, cond-false, eq-eqb, ne_eqb, cases_eq}
+use Rattle.track.specs.Words.{Written}
 
--- a test at every number below n
-abbrev all_below : ℕ → (ℕ → Bool) → Bool
-all_below zero p = true
-all_below (suc n) p = p n && all_below n p
+-- the masks of a word of 32 bits: the bit at a place alone, and every other bit
+abbrev pub one_bit : ℕ → ℕ
+one_bit place = (1 * 2 ^ place) % 4294967296
 
-at_each : (n : ℕ) (p : ℕ → Bool) → all_below n p ≡ true → (k : ℕ) → k < n → p k ≡ true
-at_each zero p all k h = absurd (omega arith)
-at_each (suc n) p all k h =
-    let parts = and_parts (p n) (all_below n p) all in
-    elim (cases_order k n) [
-      | inl e ↦ rw e parts.0
-      | inr o ↦ elim o [ inl l ↦ at_each n p parts.1 k l | inr g ↦ absurd (omega arith) ]
+abbrev pub other_bits : ℕ → ℕ
+other_bits place = 4294967295 - one_bit place
+
+-- a bit put at one place, where no other changes
+written : (w p b new : ℕ) → bit_at new p ≡ b → ((k : ℕ) → k < 24 → (k ≡ p → ⊥) → bit_at new k ≡ bit_at w k)
+    → Written w p b new
+written w p b new there elsewhere k h =
+    elim (cases_eq k p) [
+      | inl e ↦ rw e (there ∙ sym (cond-true (eqb p p) b (bit_at w p) (eq-eqb p p refl)))
+      | inr n ↦ elsewhere k h n ∙ sym (cond-false (eqb k p) b (bit_at w k) (ne_eqb k p n))
     ]
 
-one_bit_bit : (p k : ℕ) → p < 24 → k < 24 → bit (one_bit p) k ≡ cond (eqb k p) 1 0
-one_bit_bit p k hp hk =
-    eqb-true (bit (one_bit p) k) (cond (eqb k p) 1 0)
-    (at_each 24 (λ j. eqb (bit (one_bit p) j) (cond (eqb j p) 1 0))
-    (at_each 24 (λ q. all_below 24 (λ j. eqb (bit (one_bit q) j) (cond (eqb j q) 1 0))) refl p hp) k hk)
+pub bit_set : (w p : ℕ) → p < 24 → Written w p 1 (bit_or w (one_bit p))
+bit_set w p h =
+    written w p 1 (bit_or w (one_bit p)) (bit_at_set_same w32 w p (omega arith))
+    (λ k l n. bit_at_set_other w32 w p (omega arith) k n)
 
-other_bits_bit : (p k : ℕ) → p < 24 → k < 24 → bit (other_bits p) k ≡ cond (eqb k p) 0 1
-other_bits_bit p k hp hk =
-    eqb-true (bit (other_bits p) k) (cond (eqb k p) 0 1)
-    (at_each 24 (λ j. eqb (bit (other_bits p) j) (cond (eqb j p) 0 1))
-    (at_each 24 (λ q. all_below 24 (λ j. eqb (bit (other_bits q) j) (cond (eqb j q) 0 1))) refl p hp) k hk)
+pub bit_cleared : (w p : ℕ) → p < 24 → Written w p 0 (bit_and w (other_bits p))
+bit_cleared w p h =
+    written w p 0 (bit_and w (other_bits p)) (bit_at_clear_same w32 w p (omega arith))
+    (λ k l n. bit_at_clear_other w32 w p (omega arith) k (omega arith) n)
 
-or_one : (x : ℕ) → x < 2 → bit_or x 1 ≡ 1
-or_one zero h = refl
-or_one (suc zero) h = refl
-or_one (suc (suc x)) h = absurd (omega arith)
+-- the word still keeps to 24 bits
+pub set_keeps : (w p : ℕ) → w < 16777216 → p < 24 → bit_or w (one_bit p) < 16777216
+set_keeps w p kept h = or_lt 24 w (one_bit p) kept (omega (arith, one_shl p 32 (omega arith), pow_below p 24 h))
 
-or_digit : (x : ℕ) (b : Bool) → x < 2 → bit_or x (cond b 1 0) ≡ cond b 1 x
-or_digit x true h = or_one x h
-or_digit x false h = or_zero_r x
+pub clear_keeps : (w p : ℕ) → w < 16777216 → bit_and w (other_bits p) < 16777216
+clear_keeps w p kept = omega (arith, and_le_l w (other_bits p))
 
-and_digit : (x : ℕ) (b : Bool) → x < 2 → bit_and x (cond b 0 1) ≡ cond b 0 x
-and_digit zero true h = refl
-and_digit zero false h = refl
-and_digit (suc zero) true h = refl
-and_digit (suc zero) false h = refl
-and_digit (suc (suc x)) b h = absurd (omega arith)
-
-bit_below : (w k : ℕ) → bit w k < 2
-bit_below w k = mod_below (w / 2 ^ k) 2 (omega arith)
-
-pub bit_tested : (w p : ℕ) → bit_and (w / 2 ^ p) 1 ≡ bit w p
-bit_tested w p = and_mask (w / 2 ^ p) 1
-
-bit_added : (w p : ℕ) → p < 24 → (k : ℕ) → k < 24 → bit (bit_or w (one_bit p)) k ≡ cond (eqb k p) 1 (bit w k)
-bit_added w p hp k hk =
-    ap (λ n. n % 2) (or_shr w (one_bit p) k)
-    ∙ or_mod (w / 2 ^ k) (one_bit p / 2 ^ k) 1
-    ∙ ap (bit_or (bit w k)) (one_bit_bit p k hp hk)
-    ∙ or_digit (bit w k) (eqb k p) (bit_below w k)
-
-bit_removed : (w p : ℕ) → p < 24 → (k : ℕ) → k < 24 → bit (bit_and w (other_bits p)) k ≡ cond (eqb k p) 0 (bit w k)
-bit_removed w p hp k hk =
-    ap (λ n. n % 2) (and_shr w (other_bits p) k)
-    ∙ and_mod (w / 2 ^ k) (other_bits p / 2 ^ k) 1
-    ∙ ap (bit_and (bit w k)) (other_bits_bit p k hp hk)
-    ∙ and_digit (bit w k) (eqb k p) (bit_below w k)
-
-one_bit_below : (p : ℕ) → p < 24 → one_bit p < 16777216
-one_bit_below p h = ltb-true (one_bit p) 16777216 (at_each 24 (λ q. ltb (one_bit q) 16777216) refl p h)
-
-pub put_written : (w p : ℕ) (set : Bool) → p < 24
-    → Written w p (cond set 1 0) (cond set (bit_or w (one_bit p)) (bit_and w (other_bits p)))
-put_written w p true h = bit_added w p h
-put_written w p false h = bit_removed w p h
-
-pub put_keeps : (w p : ℕ) (set : Bool) → w < 16777216 → p < 24
-    → cond set (bit_or w (one_bit p)) (bit_and w (other_bits p)) < 16777216
-put_keeps w p true hw hp = or_lt 24 w (one_bit p) hw (one_bit_below p hp)
-put_keeps w p false hw hp = omega (arith, and_le_l w (other_bits p))
+-- what there is to know of a word with one bit put
+pub ruleset one_bit_put = (bit_set, bit_cleared, set_keeps, clear_keeps)

@@ -2,5 +2,4 @@ pub mod Cells
 pub mod Words
 pub mod Counts
 pub mod Kinds
-pub mod Answered
 pub mod Places

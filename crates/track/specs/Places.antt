@@ -1,12 +1,19 @@
 -- The cells of a track, read and changed at one place.
-use Rattle.std.specs.Prelude.{◌≡◌, ℕ, ◌<◌, length, ◌≢◌, slice_set}
+use Rattle.std.specs.Prelude.{◌≡◌, ℕ, ◌<◌, length, ◌≢◌, slice_set, Ok, Err, Result}
 use Rattle.std.proofs.Common.{sym, ap, ◌∙◌, inl, inr, arith}
 use Rattle.std.proofs.lemmas.List.FromFn.{length-map-range_with_len, get_or-map-range_with_len}
 use Rattle.std.proofs.lemmas.List.{ext_get_or, length-set, get_or-set_same, get_or-set_other}
 use Rattle.std.proofs.lemmas.Bool.{cases_eq}
 use Rattle.rules.specs.Detection.{new_cell}
 use Rattle.rules.specs.declared.detection.Cell.{Cell}
+use Rattle.rules.specs.declared.refusal.Refusal.{Refusal}
+use Rattle.track.specs.declared.place.Place.{Place}
 use Rattle.track.specs.Cells.{cells_by, cell_at}
+
+-- where a section stands, as a number
+abbrev pub index_of : Result Place Refusal → Result ℕ Refusal
+index_of (Ok place) = Ok place.index
+index_of (Err refusal) = Err refusal
 
 pub cells_length : (f : ℕ → Cell) → length (cells_by f) ≡ 24
 unfolding cells_by

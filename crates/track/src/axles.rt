@@ -8,13 +8,13 @@ ghost use Rattle.track.specs.declared.axles.AxleCell.TheVariants.{Empty, Countin
 ghost use Rattle.track.specs.Places.{cells_length};
 ghost use Rattle.std.proofs.Common.{rules};
 
-use crate::Track;
-use crate::checks::{check_axles, check_changes, check_mark, check_vacant, place_of};
-use rules::detection::{Cell, SectionState};
-use rules::refusal::Refusal;
+use crate::place::Place;
+use crate::store::SectionStore;
+use rules::detection::Cell;
 
 const CELLS: usize = 24;
 
+// One cell of the counter, lent and changed by itself. No Option: the rules speak of it as empty or counting.
 #[derive(Clone, Copy)]
 pub(crate) enum AxleCell {
     Empty,
@@ -44,6 +44,7 @@ impl AxleCell {
     }
 }
 
+// A table of 24 cells, as the rules have it, and beside it which sections are out of order.
 #[derive(Drop)]
 pub struct AxleCounter {
     counts: [AxleCell; CELLS],
@@ -52,65 +53,19 @@ pub struct AxleCounter {
 
 impl AxleCounter {
     // Nothing held, all in order.
+    #[tactic(auto, unfolding(crate::specs::Cells::cells_by, rules::specs::Detection::new_cells))]
     pub fn new() -> Self
         ensures { counter_cells result ≡ new_cells }
-    {
-        Self::blank()
-    }
-
-    fn blank() -> Self
-        ensures counts { result.counts ≡ replicate 24 Empty }
-        ensures order { result.out_of_order ≡ replicate 24 false }
     {
         AxleCounter {
             counts: [AxleCell::Empty; CELLS],
             out_of_order: [false; CELLS],
         }
     }
-
-    fn read(&self, place: usize) -> Cell
-        requires { place < 24 }
-        ensures { result ≡ counter_at self.now place }
-    {
-        Cell {
-            held: self.counts[place].axles(),
-            failed: self.out_of_order[place],
-        }
-    }
-
-    fn cell(&self, place: usize) -> Cell
-        requires { place < 24 }
-        ensures { result ≡ cell_at (counter_cells self.now) place }
-    {
-        self.read(place)
-    }
-
-    fn count_in(&mut self, place: usize, axles: u32)
-        requires { place < 24 }
-        ensures { counter_cells self.new
-            ≡ set_held (counter_cells self.old) place axles }
-    {
-        self.counts[place].count_in(axles);
-    }
-
-    fn count_out(&mut self, place: usize)
-        requires { place < 24 }
-        ensures { counter_cells self.new
-            ≡ set_held (counter_cells self.old) place 0 }
-    {
-        self.counts[place].count_out();
-    }
-
-    fn put_failed(&mut self, place: usize, failed: bool)
-        requires { place < 24 }
-        ensures { counter_cells self.new
-            ≡ set_failed (counter_cells self.old) place failed }
-    {
-        self.out_of_order[place] = failed;
-    }
 }
 
-impl Track for AxleCounter {
+#[tactic(auto, using(crate::proofs::CounterCells::one_count))]
+impl SectionStore for AxleCounter {
     ghost cells = { λ track. counter_cells track };
 
     ghost mark = { λ axles. axles };
@@ -119,38 +74,26 @@ impl Track for AxleCounter {
 
     ghost marked = { Prim.search rules };
 
-    fn state(&self, section: u32) -> Result<SectionState, Refusal> {
-        let place = place_of(section)?;
-        Ok(self.cell(place).state())
+    fn mark(axles: u32) -> u32 {
+        axles
     }
 
-    fn enter(&mut self, section: u32, axles: u32) -> Result<(), Refusal> {
-        let place = place_of(section)?;
-        check_axles(axles)?;
-        check_vacant(self.cell(place))?;
-        self.count_in(place, axles);
-        Ok(())
+    fn cell(&self, place: Place) -> Cell {
+        Cell {
+            held: self.counts[place.index].axles(),
+            failed: self.out_of_order[place.index],
+        }
     }
 
-    fn leave(&mut self, section: u32, axles: u32) -> Result<(), Refusal> {
-        let place = place_of(section)?;
-        check_axles(axles)?;
-        check_mark(self.cell(place).held, axles)?;
-        self.count_out(place);
-        Ok(())
+    fn hold(&mut self, place: Place, axles: u32) {
+        self.counts[place.index].count_in(axles);
     }
 
-    fn fail(&mut self, section: u32) -> Result<(), Refusal> {
-        let place = place_of(section)?;
-        check_changes(self.cell(place).failed, true)?;
-        self.put_failed(place, true);
-        Ok(())
+    fn free(&mut self, place: Place) {
+        self.counts[place.index].count_out();
     }
 
-    fn mend(&mut self, section: u32) -> Result<(), Refusal> {
-        let place = place_of(section)?;
-        check_changes(self.cell(place).failed, false)?;
-        self.put_failed(place, false);
-        Ok(())
+    fn put_failed(&mut self, place: Place, failed: bool) {
+        self.out_of_order[place.index] = failed;
     }
 }

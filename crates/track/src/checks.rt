@@ -1,18 +1,27 @@
 // What every kind of track asks before it acts: one function for each row.
 ghost use Rattle.std.specs.Prelude.{◌≡◌, ◌-◌, true, [], ◌∷◌, is_ok};
 ghost use Rattle.rules.specs.Table.{answer, outcome, topmost};
+ghost use Rattle.track.specs.Places.{index_of};
 ghost use Rattle.rules.specs.Detection.{state_of, no_section, bad_axles, not_vacant, wrong_mark, so_already};
 
+use crate::place::Place;
 use rules::detection::{Cell, FEWEST_AXLES, LAST_SECTION, MOST_AXLES, SectionState};
 use rules::refusal::Refusal;
 
-// The place of a section in a table that begins with section 1.
-pub(crate) fn place_of(section: u32) -> Result<usize, Refusal>
-    ensures { result ≡ answer (topmost (no_section section ∷ [])) (section - 1) }
-{
-    match section {
-        1..=LAST_SECTION => Ok((section - 1) as usize),
-        _ => Err(Refusal::NoSection),
+// The place of a section, if there is one.
+impl TryFrom<u32> for Place {
+    type Error = Refusal;
+
+    ghost try_from_gives = { λ section found.
+        index_of found ≡ answer (topmost (no_section section ∷ [])) (section - 1) };
+
+    fn try_from(section: u32) -> Result<Self, Refusal> {
+        match section {
+            1..=LAST_SECTION => Ok(Place {
+                index: (section - 1) as usize,
+            }),
+            _ => Err(Refusal::NoSection),
+        }
     }
 }
 

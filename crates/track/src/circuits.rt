@@ -1,16 +1,14 @@
 // Track circuits: two words of 24 bits, held and out of order. They keep of a train that it is there.
-ghost use Rattle.std.specs.Prelude.{◌≡◌, ◌<◌, if◌then◌else◌};
+ghost use Rattle.std.specs.Prelude.{◌≡◌};
 ghost use Rattle.rules.specs.Detection.{new_cells};
-ghost use Rattle.track.specs.Cells.{cell_at, set_held, set_failed};
 ghost use Rattle.track.specs.Kinds.{circuit_at, circuit_cells};
 ghost use Rattle.track.specs.Places.{cells_length};
 ghost use Rattle.std.proofs.Common.{rules};
 
-use crate::Track;
-use crate::checks::{check_axles, check_changes, check_mark, check_vacant, place_of};
+use crate::place::Place;
+use crate::store::SectionStore;
 use crate::word::SectionWord;
-use rules::detection::{Cell, SectionState};
-use rules::refusal::Refusal;
+use rules::detection::Cell;
 
 // What a circuit keeps of a train, however many axles it has.
 const MARK: u32 = 1;
@@ -23,6 +21,7 @@ pub struct TrackCircuits {
 
 impl TrackCircuits {
     // Nothing held, all in order.
+    #[tactic(auto, unfolding(crate::specs::Cells::cells_by, rules::specs::Detection::new_cells))]
     pub fn new() -> Self
         ensures { circuit_cells result ≡ new_cells }
     {
@@ -31,42 +30,10 @@ impl TrackCircuits {
             out_of_order: SectionWord::empty(),
         }
     }
-
-    fn read(&self, place: usize) -> Cell
-        requires { place < 24 }
-        ensures { result ≡ circuit_at self.now place }
-    {
-        Cell {
-            held: self.held.bit(place),
-            failed: self.out_of_order.bit(place) == 1,
-        }
-    }
-
-    fn cell(&self, place: usize) -> Cell
-        requires { place < 24 }
-        ensures { result ≡ cell_at (circuit_cells self.now) place }
-    {
-        self.read(place)
-    }
-
-    fn put_held(&mut self, place: usize, held: bool)
-        requires { place < 24 }
-        ensures { circuit_cells self.new
-            ≡ set_held (circuit_cells self.old) place (if held then 1 else 0) }
-    {
-        self.held.put(place, held);
-    }
-
-    fn put_failed(&mut self, place: usize, failed: bool)
-        requires { place < 24 }
-        ensures { circuit_cells self.new
-            ≡ set_failed (circuit_cells self.old) place failed }
-    {
-        self.out_of_order.put(place, failed);
-    }
 }
 
-impl Track for TrackCircuits {
+#[tactic(auto, using(crate::proofs::CircuitCells::one_circuit))]
+impl SectionStore for TrackCircuits {
     ghost cells = { λ track. circuit_cells track };
 
     ghost mark = { λ _. 1 };
@@ -75,38 +42,26 @@ impl Track for TrackCircuits {
 
     ghost marked = { Prim.search rules };
 
-    fn state(&self, section: u32) -> Result<SectionState, Refusal> {
-        let place = place_of(section)?;
-        Ok(self.cell(place).state())
+    fn mark(_axles: u32) -> u32 {
+        MARK
     }
 
-    fn enter(&mut self, section: u32, axles: u32) -> Result<(), Refusal> {
-        let place = place_of(section)?;
-        check_axles(axles)?;
-        check_vacant(self.cell(place))?;
-        self.put_held(place, true);
-        Ok(())
+    fn cell(&self, place: Place) -> Cell {
+        Cell {
+            held: if self.held.has(place) { MARK } else { 0 },
+            failed: self.out_of_order.has(place),
+        }
     }
 
-    fn leave(&mut self, section: u32, axles: u32) -> Result<(), Refusal> {
-        let place = place_of(section)?;
-        check_axles(axles)?;
-        check_mark(self.cell(place).held, MARK)?;
-        self.put_held(place, false);
-        Ok(())
+    fn hold(&mut self, place: Place, _axles: u32) {
+        self.held.put(place, true);
     }
 
-    fn fail(&mut self, section: u32) -> Result<(), Refusal> {
-        let place = place_of(section)?;
-        check_changes(self.cell(place).failed, true)?;
-        self.put_failed(place, true);
-        Ok(())
+    fn free(&mut self, place: Place) {
+        self.held.put(place, false);
     }
 
-    fn mend(&mut self, section: u32) -> Result<(), Refusal> {
-        let place = place_of(section)?;
-        check_changes(self.cell(place).failed, false)?;
-        self.put_failed(place, false);
-        Ok(())
+    fn put_failed(&mut self, place: Place, failed: bool) {
+        self.out_of_order.put(place, failed);
     }
 }

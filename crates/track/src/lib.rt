@@ -3,6 +3,7 @@
 
 ghost use Rattle.std.specs.Prelude.{◌≡◌, ℕ, ◌≤◌, true, List, length};
 ghost use Rattle.rules.specs.Detection.{Ends, legal_axles, state_answer};
+ghost use Rattle.track.specs.Cells.{reads_vacant};
 ghost use Rattle.rules.specs.declared.detection.Cell.{Cell};
 ghost use Rattle.rules.specs.declared.detection.TrackCall.TheVariants.{Enter, Leave, Fail, Mend};
 
@@ -12,6 +13,8 @@ use rules::refusal::Refusal;
 pub mod axles;
 mod checks;
 pub mod circuits;
+mod place;
+mod store;
 pub mod telling;
 mod word;
 
@@ -42,6 +45,13 @@ pub trait Track {
     // The section is back in order; what it holds stays.
     fn mend(&mut self, section: u32) -> Result<(), Refusal>
         ensures { Ends mark (cells self.old) (Mend section) result (cells self.new) };
+
+    // Whether there is such a section and it reads vacant.
+    fn is_vacant(&self, section: u32) -> bool
+        ensures { result ≡ reads_vacant (cells self.now) section }
+    {
+        matches!(self.state(section), Ok(SectionState::Vacant))
+    }
 
     ghost sized: { (track : Self) → length (cells track) ≡ 24 };
 

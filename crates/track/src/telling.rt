@@ -2,11 +2,9 @@
 ghost use Rattle.std.specs.Prelude.{◌≡◌};
 ghost use Rattle.rules.specs.Detection.{track_answer, track_after};
 ghost use Rattle.rules.specs.TrackRuns.{GoesOn};
-ghost use Rattle.track.specs.Answered.{answered_by};
 
 use crate::Track;
 use rules::detection::{TrackAnswer, TrackCall};
-use rules::refusal::Refusal;
 
 // Tells the track. Of a track that was new, whatever calls came before and in whatever order: afterwards each section
 // reads what an onlooker to those calls and this one must think of it.
@@ -15,31 +13,11 @@ pub fn tell<T: Track>(track: &mut T, call: TrackCall) -> TrackAnswer
     ensures after { T.cells track.new ≡ track_after T.mark (T.cells track.old) call }
     ensures history { GoesOn T.mark (T.cells track.old) call (T.cells track.new) }
 {
-    pass_on(track, call)
-}
-
-// The same without the history, which would otherwise be owed once an arm.
-fn pass_on<T: Track>(track: &mut T, call: TrackCall) -> TrackAnswer
-    ensures answer { result ≡ track_answer T.mark (T.cells track.old) call }
-    ensures after { T.cells track.new ≡ track_after T.mark (T.cells track.old) call }
-{
     match call {
-        TrackCall::State { section } => match track.state(section) {
-            Ok(state) => TrackAnswer::Reads(state),
-            Err(refusal) => TrackAnswer::TurnedDown(refusal),
-        },
-        TrackCall::Enter { section, axles } => answered(track.enter(section, axles)),
-        TrackCall::Leave { section, axles } => answered(track.leave(section, axles)),
-        TrackCall::Fail { section } => answered(track.fail(section)),
-        TrackCall::Mend { section } => answered(track.mend(section)),
-    }
-}
-
-fn answered(res: Result<(), Refusal>) -> TrackAnswer
-    ensures { result ≡ answered_by res }
-{
-    match res {
-        Ok(()) => TrackAnswer::Done,
-        Err(refusal) => TrackAnswer::TurnedDown(refusal),
+        TrackCall::State { section } => track.state(section).into(),
+        TrackCall::Enter { section, axles } => track.enter(section, axles).into(),
+        TrackCall::Leave { section, axles } => track.leave(section, axles).into(),
+        TrackCall::Fail { section } => track.fail(section).into(),
+        TrackCall::Mend { section } => track.mend(section).into(),
     }
 }

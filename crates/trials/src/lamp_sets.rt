@@ -4,14 +4,7 @@ use rules::aspect::LampSet;
 
 // The numbers of the aspects shown for 0, 1, 2, 3, 4 and very many clear sections.
 fn shown(set: LampSet) -> [u8; 6] {
-    [
-        set.aspect(0, 500).number(),
-        set.aspect(1, 500).number(),
-        set.aspect(2, 500).number(),
-        set.aspect(3, 500).number(),
-        set.aspect(4, 500).number(),
-        set.aspect(u32::MAX, 500).number(),
-    ]
+    [0, 1, 2, 3, 4, u32::MAX].map(|clear| set.aspect(clear, 500).number())
 }
 
 #[test]

@@ -1,11 +1,11 @@
 // The blocks on which a slip is out.
-ghost use Rattle.std.specs.Prelude.{◌≡◌, ◌≤◌, true, OnOk};
-ghost use Rattle.rules.specs.Calls.{with_closed, hand_in, verdict};
+ghost use Rattle.std.specs.Prelude.{◌≡◌, ◌≤◌, true, [], ◌∷◌, OnOk};
+ghost use Rattle.rules.specs.Calls.{with_closed, hand_in, verdict, not_laid, no_block};
 ghost use Rattle.rules.specs.Lines.{closed_at, blocks};
-ghost use Rattle.rules.specs.Table.{answer, within};
+ghost use Rattle.rules.specs.Table.{answer, outcome, topmost, within};
 ghost use Rattle.line.specs.Frames.{trackless, nothing_shown, Becomes};
 
-use crate::frame::{Frame, MOST_BLOCKS};
+use crate::frame::Frame;
 use rules::refusal::Refusal;
 
 impl Frame {
@@ -13,7 +13,20 @@ impl Frame {
         ensures is { result ≡ within 1 (blocks (trackless self.now)) block }
         ensures few { result ≡ true → block ≤ 16 }
     {
-        1 <= block && block <= self.blocks()
+        (1..=self.blocks()).contains(&block)
+    }
+
+    // Whether a call may be about a block: the line is laid, and has it.
+    pub(crate) fn check_block(&self, block: u32) -> Result<(), Refusal>
+        ensures row { result ≡ outcome (topmost
+            (not_laid (trackless self.now) ∷ no_block (trackless self.now) block ∷ [])) }
+        ensures block { OnOk result ((1 ≤ block) × (block ≤ 16)) }
+    {
+        self.laid()?;
+        if !self.is_block(block) {
+            return Err(Refusal::NoSection);
+        }
+        Ok(())
     }
 
     // Whether a slip that bears these numbers may be handed in.
@@ -22,16 +35,8 @@ impl Frame {
             (verdict nothing_shown (trackless self.now) (hand_in number block)) tt }
         ensures block { OnOk result ((1 ≤ block) × (block ≤ 16)) }
     {
-        if !self.is_laid() {
-            return Err(Refusal::NotLaid);
-        }
-        if !self.is_block(block) {
-            return Err(Refusal::NoSection);
-        }
-        if number != self.number() {
-            return Err(Refusal::StrangeSlip);
-        }
-        if !self.closed_at(block) {
+        self.check_block(block)?;
+        if number != self.number() || !self.closed_at(block) {
             return Err(Refusal::StrangeSlip);
         }
         Ok(())
@@ -41,11 +46,7 @@ impl Frame {
         ensures { result ≡ closed_at (trackless self.now) section }
     {
         let place = section.saturating_sub(1) as usize;
-        if place < MOST_BLOCKS {
-            self.closed[place]
-        } else {
-            false
-        }
+        self.closed.get(place).copied().unwrap_or(false)
     }
 
     pub(crate) fn put_closed(&mut self, block: u32, closed: bool)

@@ -1,11 +1,15 @@
 // A frame as new, and what it says of its laying.
-ghost use Rattle.std.specs.Prelude.{◌≡◌, ◌≤◌, true, not, [], IfOk};
+ghost use Rattle.std.specs.Prelude.{◌≡◌, ◌≤◌, true, not, [], ◌∷◌, IfOk};
+ghost use Rattle.rules.specs.Calls.{not_laid, no_station, some_station};
 ghost use Rattle.rules.specs.Lines.{new_line, bare, blocks, roads, laying_of, levers_at};
+ghost use Rattle.rules.specs.Table.{answer, topmost};
 ghost use Rattle.line.specs.Frames.{trackless};
 ghost use Rattle.line.specs.Keeping.{levers_kept};
 
 use crate::frame::{Frame, MOST, MOST_BLOCKS};
+use crate::places::Road;
 use rules::line::{Laying, Levers, Station};
+use rules::refusal::Refusal;
 use std::alloc::{AllocError, Global};
 
 const NORMAL: Levers = Levers {
@@ -41,42 +45,59 @@ impl Frame {
         self.laying
     }
 
+    // What the line was laid with, or the row that turns a call of a bare line down.
+    pub(crate) fn laid(&self) -> Result<Laying, Refusal>
+        ensures { result ≡ answer (topmost (not_laid (trackless self.now) ∷ [])) (laying_of (trackless self.now)) }
+    {
+        self.laying.ok_or(Refusal::NotLaid)
+    }
+
+    // The station of a number, on a line that is laid.
+    pub(crate) fn station(&self, number: u32) -> Result<Station, Refusal>
+        ensures { result ≡ answer
+            (topmost (not_laid (trackless self.now) ∷ no_station number ∷ [])) (some_station number) }
+    {
+        self.laid()?;
+        Station::try_from(number)
+    }
+
     pub(crate) fn number(&self) -> u32
         ensures { result ≡ (laying_of (trackless self.now)).number }
     {
-        match self.laying {
-            Some(laying) => laying.number,
-            None => 0,
-        }
+        self.laying.map_or(0, |laying| laying.number)
     }
 
     pub(crate) fn reach(&self) -> u32
         ensures { result ≡ (laying_of (trackless self.now)).reach }
     {
-        match self.laying {
-            Some(laying) => laying.reach,
-            None => 0,
-        }
+        self.laying.map_or(0, |laying| laying.reach)
     }
 
     pub(crate) fn blocks(&self) -> u32
         ensures is { result ≡ blocks (trackless self.now) }
         ensures few { result ≤ 16 }
     {
-        match self.laying {
-            Some(laying) => laying.blocks,
-            None => 0,
-        }
+        self.laying.map_or(0, |laying| laying.blocks)
     }
 
     pub(crate) fn roads(&self, station: Station) -> u32
         ensures is { result ≡ roads (trackless self.now) station }
         ensures few { result ≤ 4 }
     {
-        match (self.laying, station) {
-            (Some(laying), Station::EndA) => laying.roads_a,
-            (Some(laying), Station::EndB) => laying.roads_b,
-            (None, _) => 0,
+        self.laying.map_or(0, |laying| match station {
+            Station::EndA => laying.roads_a,
+            Station::EndB => laying.roads_b,
+        })
+    }
+
+    // The last road of a station.
+    pub(crate) fn last_road(&self, station: Station) -> Road
+        ensures station { result.station ≡ station }
+        ensures number { result.number ≡ roads (trackless self.now) station }
+    {
+        Road {
+            station,
+            number: self.roads(station),
         }
     }
 
@@ -87,6 +108,17 @@ impl Frame {
         match station {
             Station::EndA => self.at_a,
             Station::EndB => self.at_b,
+        }
+    }
+
+    // The road that the home of a station is reversed for.
+    pub(crate) fn home_road(&self, station: Station) -> Road
+        ensures station { result.station ≡ station }
+        ensures number { result.number ≡ (levers_at (trackless self.now) station).home }
+    {
+        Road {
+            station,
+            number: self.levers(station).home,
         }
     }
 }

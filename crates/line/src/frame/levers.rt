@@ -1,142 +1,113 @@
 // The levers of the two stations: what locks them, and putting them.
-ghost use Rattle.std.specs.Prelude.{◌≡◌, ◌≤◌, true, OnOk};
-ghost use Rattle.rules.specs.Calls.{with_levers, turned, starter_put, home_put};
-ghost use Rattle.rules.specs.Calls.{verdict, starter, home, some_station};
-ghost use Rattle.rules.specs.Calls.{half_out, half_in, starter_held, home_held, same_end, any_train};
+ghost use Rattle.std.specs.Prelude.{◌≡◌, true};
+ghost use Rattle.rules.specs.Calls.{with_levers, turned, verdict, some_station, starter_held, home_held};
 ghost use Rattle.rules.specs.Lines.{levers_at};
 ghost use Rattle.rules.specs.Table.{answer};
 ghost use Rattle.line.specs.Frames.{trackless, nothing_shown, Becomes};
-ghost use Rattle.line.specs.Holding.{holding};
 ghost use Rattle.line.specs.Keeping.{levers_kept};
+ghost use Rattle.line.specs.Levers.{lever_call, lever_put, lever_road, may_reverse, lever_held, station_and_road};
 
 use crate::frame::Frame;
-use crate::places::station_of;
-use rules::line::{Levers, Station, Train};
+use crate::places::Road;
+use rules::line::{Levers, Station};
 use rules::refusal::Refusal;
 
-// The levers that a train can hold.
+// The levers that are reversed for a road, and that a train can hold.
 #[derive(Clone, Copy)]
 pub(crate) enum Lever {
     Starter,
     Home,
 }
 
-fn same_end(one: Station, other: Station) -> bool
-    ensures { result ≡ same_end one other }
-{
-    one.number() == other.number()
-}
-
-// A rear in the station and the front elsewhere.
-fn half_out(train: &Train, station: Station) -> bool
-    ensures { result ≡ half_out station train.now }
-{
-    same_end(train.from, station) && train.rear == 0 && train.front != 0
-}
-
-// On a line of so many blocks, a front in the station and the rear elsewhere.
-fn half_in(train: &Train, blocks: u32, station: Station) -> bool
-    requires { blocks ≤ 16 }
-    ensures { result ≡ half_in blocks station train.now }
-{
-    same_end(train.from, station.other()) && train.front == blocks + 1
-}
-
-// Whether a train holds the lever of a station, on a line of so many blocks.
-fn holds(train: &Train, lever: Lever, blocks: u32, station: Station) -> bool
-    requires { blocks ≤ 16 }
-    ensures { result ≡ holding lever blocks station train.now }
-{
-    match lever {
-        Lever::Starter => half_out(train, station),
-        Lever::Home => half_in(train, blocks, station),
-    }
-}
-
-fn any_holds(trains: &[Train], lever: Lever, blocks: u32, station: Station) -> bool
-    requires { blocks ≤ 16 }
-    ensures { result ≡ any_train (holding lever blocks station) trains.now }
-{
-    for train in trains {
-        if holds(train, lever, blocks, station) {
-            return true;
+impl Lever {
+    // The road that it is reversed for, 0 where it is normal.
+    fn road(self, levers: Levers) -> u32
+        ensures { result ≡ lever_road self levers }
+    {
+        match self {
+            Lever::Starter => levers.starter,
+            Lever::Home => levers.home,
         }
     }
-    false
+
+    // A starter may be reversed where its station sends, a home where it receives.
+    fn may_reverse(self, levers: Levers) -> bool
+        ensures { result ≡ may_reverse self levers }
+    {
+        match self {
+            Lever::Starter => levers.sends,
+            Lever::Home => !levers.sends,
+        }
+    }
+
+    fn put(self, levers: Levers, road: u32) -> Levers
+        ensures { result ≡ lever_put self levers road }
+    {
+        match self {
+            Lever::Starter => Levers {
+                starter: road,
+                ..levers
+            },
+            Lever::Home => Levers {
+                home: road,
+                ..levers
+            },
+        }
+    }
 }
 
 impl Frame {
+    // A rear in the station and the front elsewhere.
     fn starter_held(&self, station: Station) -> bool
         ensures { result ≡ starter_held (trackless self.now) station }
     {
-        any_holds(
-            self.trains.as_slice(),
-            Lever::Starter,
-            self.blocks(),
-            station,
-        )
+        self.trains.iter().any(|train| train.from == station && train.rear == 0 && train.front != 0)
     }
 
+    // A front in the station and the rear elsewhere.
     fn home_held(&self, station: Station) -> bool
         ensures { result ≡ home_held (trackless self.now) station }
     {
-        any_holds(self.trains.as_slice(), Lever::Home, self.blocks(), station)
+        let other = station.other();
+        let place = self.blocks() + 1;
+        self.trains
+            .iter()
+            .any(|train| train.from == other && train.front == place)
     }
 
-    // Whether a starter may be put there, at the station of that number.
-    pub(crate) fn check_starter(&self, station: u32, road: u32) -> Result<Station, Refusal>
-        ensures row { result ≡ answer
-            (verdict nothing_shown (trackless self.now) (starter station road)) (some_station station) }
-        ensures few { OnOk result (road ≤ 4) }
+    fn is_held(&self, lever: Lever, station: Station) -> bool
+        ensures { result ≡ lever_held lever (trackless self.now) station }
     {
-        if !self.is_laid() {
-            return Err(Refusal::NotLaid);
+        match lever {
+            Lever::Starter => self.starter_held(station),
+            Lever::Home => self.home_held(station),
         }
-        let Some(station) = station_of(station) else {
-            return Err(Refusal::NoStation);
-        };
+    }
+
+    // The road that a lever may be put for, 0 for normal, at the station of that number.
+    pub(crate) fn check_lever(&self, lever: Lever, station: u32, road: u32) -> Result<Road, Refusal>
+        ensures { station_and_road result ≡ answer
+            (verdict nothing_shown (trackless self.now) (lever_call lever station road))
+            (some_station station, road) }
+    {
+        let station = self.station(station)?;
         let levers = self.levers(station);
         if self.roads(station) < road {
             return Err(Refusal::NoRoad);
         }
-        if (levers.starter == 0) == (road == 0) {
+        if (lever.road(levers) == 0) == (road == 0) {
             return Err(Refusal::ThereAlready);
         }
-        if road != 0 && !levers.sends {
+        if road != 0 && !lever.may_reverse(levers) {
             return Err(Refusal::WrongWay);
         }
-        if road == 0 && self.starter_held(station) {
+        if road == 0 && self.is_held(lever, station) {
             return Err(Refusal::Held);
         }
-        Ok(station)
-    }
-
-    // Whether a home may be put there, at the station of that number.
-    pub(crate) fn check_home(&self, station: u32, road: u32) -> Result<Station, Refusal>
-        ensures row { result ≡ answer
-            (verdict nothing_shown (trackless self.now) (home station road)) (some_station station) }
-        ensures few { OnOk result (road ≤ 4) }
-    {
-        if !self.is_laid() {
-            return Err(Refusal::NotLaid);
-        }
-        let Some(station) = station_of(station) else {
-            return Err(Refusal::NoStation);
-        };
-        let levers = self.levers(station);
-        if self.roads(station) < road {
-            return Err(Refusal::NoRoad);
-        }
-        if (levers.home == 0) == (road == 0) {
-            return Err(Refusal::ThereAlready);
-        }
-        if road != 0 && levers.sends {
-            return Err(Refusal::WrongWay);
-        }
-        if road == 0 && self.home_held(station) {
-            return Err(Refusal::Held);
-        }
-        Ok(station)
+        Ok(Road {
+            station,
+            number: road,
+        })
     }
 
     fn put_levers(&mut self, station: Station, levers: Levers)
@@ -158,41 +129,16 @@ impl Frame {
             station,
             Levers {
                 sends: send,
-                starter: levers.starter,
-                home: levers.home,
+                ..levers
             },
         );
     }
 
-    pub(crate) fn put_starter(&mut self, station: Station, road: u32)
-        requires { road ≤ 4 }
-        ensures { Becomes (λ line. with_levers line station (starter_put (levers_at line station) road))
-            self.old self.new }
+    pub(crate) fn put_lever(&mut self, lever: Lever, road: Road)
+        ensures { Becomes (λ line. with_levers line road.station
+            (lever_put lever (levers_at line road.station) road.number)) self.old self.new }
     {
-        let levers = self.levers(station);
-        self.put_levers(
-            station,
-            Levers {
-                sends: levers.sends,
-                starter: road,
-                home: levers.home,
-            },
-        );
-    }
-
-    pub(crate) fn put_home(&mut self, station: Station, road: u32)
-        requires { road ≤ 4 }
-        ensures { Becomes (λ line. with_levers line station (home_put (levers_at line station) road))
-            self.old self.new }
-    {
-        let levers = self.levers(station);
-        self.put_levers(
-            station,
-            Levers {
-                sends: levers.sends,
-                starter: levers.starter,
-                home: road,
-            },
-        );
+        let levers = self.levers(road.station);
+        self.put_levers(road.station, lever.put(levers, road.number));
     }
 }

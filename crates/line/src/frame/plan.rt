@@ -1,16 +1,17 @@
 // The plan: the metres and the names of the sections in use.
-ghost use Rattle.std.specs.Prelude.{◌≡◌, ◌+◌, ◌-◌, ◌≤◌, true, length, vec_capacity, sum_by};
+ghost use Rattle.std.specs.Prelude.{◌≡◌, ◌+◌, ◌≤◌, true, length, vec_capacity, sum_by};
+ghost use Rattle.std.specs.List.{list_all};
 ghost use Rattle.rules.specs.Calls.{legal_laying, legal_entry, legal_entries, has_name, names_differ, legal_plan};
 ghost use Rattle.rules.specs.Calls.{as_laid};
 ghost use Rattle.rules.specs.Lines.{blocks, bare};
 ghost use Rattle.rules.specs.Signals.{metres_from, metres_of_entry, road_index};
-ghost use Rattle.rules.specs.Table.{within};
 ghost use Rattle.line.specs.Frames.{trackless, Becomes};
-ghost use Rattle.line.specs.Keeping.{every, entry_kept};
+ghost use Rattle.line.specs.Keeping.{entry_kept};
 ghost use Rattle.line.specs.Parts.{part_start};
 
+use crate::frame::questions::Signal;
 use crate::frame::{Frame, MOST_BLOCKS};
-use crate::search::search;
+use crate::places::Road;
 use rules::line::{Laying, PlanEntry, Station};
 
 const MOST_ROADS: u32 = 4;
@@ -18,58 +19,42 @@ const MOST_ROADS: u32 = 4;
 // The highest number that a line, a name, a train may bear.
 pub(crate) const MOST_NUMBER: u32 = 9_999;
 
-fn within(low: u32, high: u32, number: u32) -> bool
-    ensures { result ≡ within low high number }
-{
-    low <= number && number <= high
-}
-
 // The limits of the numbers that a line is laid with.
 pub(crate) fn legal_laying(laying: Laying) -> bool
     ensures { result ≡ legal_laying laying }
 {
-    within(1, MOST_BLOCKS as u32, laying.blocks)
-        && within(1, MOST_ROADS, laying.roads_a)
-        && within(1, MOST_ROADS, laying.roads_b)
-        && within(1, laying.blocks, laying.reach)
-        && within(1, MOST_NUMBER, laying.number)
+    (1..=MOST_BLOCKS as u32).contains(&laying.blocks)
+        && (1..=MOST_ROADS).contains(&laying.roads_a)
+        && (1..=MOST_ROADS).contains(&laying.roads_b)
+        && (1..=laying.blocks).contains(&laying.reach)
+        && (1..=MOST_NUMBER).contains(&laying.number)
 }
 
 fn legal_entry(entry: &PlanEntry) -> bool
     ensures { result ≡ legal_entry entry.now }
 {
-    within(1, MOST_NUMBER, entry.name) && within(100, 9_999, entry.metres)
+    (1..=MOST_NUMBER).contains(&entry.name) && (100..=9_999).contains(&entry.metres)
 }
 
 fn legal_entries(plan: &[PlanEntry]) -> bool
     ensures { result ≡ legal_entries plan.now }
 {
-    for entry in plan {
-        if !legal_entry(entry) {
-            return false;
-        }
-    }
-    true
+    plan.iter().all(legal_entry)
 }
 
-// Whether an entry bears a name, which is not 0.
 fn has_name(plan: &[PlanEntry], name: u32) -> bool
-    requires { 1 ≤ name }
     ensures { result ≡ has_name name plan.now }
 {
-    search(plan, name).is_some()
+    plan.iter().any(|entry| entry.name == name)
 }
 
 fn names_differ(plan: &[PlanEntry]) -> bool
-    requires { legal_entries plan.now ≡ true }
     ensures { result ≡ names_differ plan.now }
 {
-    for index in 0..plan.len() {
-        if has_name(&plan[index + 1..], plan[index].name) {
-            return false;
-        }
+    match plan {
+        [] => true,
+        [entry, rest @ ..] => !has_name(rest, entry.name) && names_differ(rest),
     }
-    true
 }
 
 // An entry for each section in use, with its own name.
@@ -81,7 +66,7 @@ pub(crate) fn legal_plan(laying: Laying, plan: &[PlanEntry]) -> bool
     plan.len() == sections as usize && legal_entries(plan) && names_differ(plan)
 }
 
-// The plan copied into memory that is there.
+// The plan copied into memory that is there, entry by entry: what copies a whole slice into a Vec may ask for memory.
 fn copy(into: &mut Vec<PlanEntry>, plan: &[PlanEntry])
     requires { length plan.now ≤ vec_capacity into.old }
     ensures items { into.new.items ≡ plan.now }
@@ -93,8 +78,9 @@ fn copy(into: &mut Vec<PlanEntry>, plan: &[PlanEntry])
     }
 }
 
+// A loop adds them up, as the rules have it.
 fn sum_metres(part: &[PlanEntry]) -> u32
-    requires kept { every entry_kept part.now ≡ true }
+    requires kept { list_all entry_kept part.now ≡ true }
     requires few { length part.now ≤ 24 }
     ensures { result ≡ sum_by (λ entry. entry.metres) part.now }
 {
@@ -117,25 +103,23 @@ impl Frame {
         self.laying = Some(laying);
     }
 
-    // Where the entries of so many blocks from a distance on begin in the plan.
-    fn part_start(&self, station: Station, distance: u32, count: u32) -> usize
-        requires low { 1 ≤ distance }
-        requires high { count + distance ≤ blocks (trackless self.now) + 1 }
-        ensures { result ≡ part_start (blocks (trackless self.now)) station distance count }
+    // Where the entries of so many blocks from a signal's on begin in the plan.
+    fn part_start(&self, at: Signal, count: u32) -> usize
+        requires { count + at.distance ≤ blocks (trackless self.now) + 1 }
+        ensures { result ≡ part_start (blocks (trackless self.now)) at.station at.distance count }
     {
-        match station {
-            Station::EndA => (distance - 1) as usize,
-            Station::EndB => (self.blocks() + 1 - distance - count) as usize,
+        match at.station {
+            Station::EndA => (at.distance - 1) as usize,
+            Station::EndB => (self.blocks() + 1 - at.distance - count) as usize,
         }
     }
 
-    // The metres of so many blocks from a distance on.
-    pub(crate) fn block_metres(&self, station: Station, distance: u32, count: u32) -> u32
-        requires low { 1 ≤ distance }
-        requires high { count + distance ≤ blocks (trackless self.now) + 1 }
-        ensures { result ≡ metres_from (trackless self.now) station distance count }
+    // The metres of so many blocks from a signal's on.
+    pub(crate) fn block_metres(&self, at: Signal, count: u32) -> u32
+        requires { count + at.distance ≤ blocks (trackless self.now) + 1 }
+        ensures { result ≡ metres_from (trackless self.now) at.station at.distance count }
     {
-        let start = self.part_start(station, distance, count);
+        let start = self.part_start(at, count);
         let plan = self.plan.as_slice();
         sum_metres(&plan[start..start + count as usize])
     }
@@ -143,23 +127,19 @@ impl Frame {
     fn metres_of(&self, index: u32) -> u32
         ensures { result ≡ metres_of_entry (trackless self.now) index }
     {
-        let index = index as usize;
-        if index < self.plan.len() {
-            self.plan[index].metres
-        } else {
-            0
-        }
+        self.plan
+            .get(index as usize)
+            .map_or(0, |entry| entry.metres)
     }
 
-    pub(crate) fn road_metres(&self, station: Station, road: u32) -> u32
-        requires { road ≤ 4 }
+    pub(crate) fn road_metres(&self, road: Road) -> u32
         ensures { result ≡ metres_of_entry (trackless self.now)
-            (road_index (trackless self.now) station road) }
+            (road_index (trackless self.now) road.station road.number) }
     {
-        let before = match station {
+        let before = match road.station {
             Station::EndA => self.blocks(),
             Station::EndB => self.blocks() + self.roads(Station::EndA),
         };
-        self.metres_of((before + road).saturating_sub(1))
+        self.metres_of((before + road.number).saturating_sub(1))
     }
 }

@@ -1,24 +1,25 @@
 // Which signal or section a question is about.
-ghost use Rattle.std.specs.Prelude.{◌≡◌, ◌<◌, ◌≤◌, true, [], ◌∷◌, IfOk, OnOk};
+ghost use Rattle.std.specs.Prelude.{◌≡◌, ◌<◌, ◌≤◌, [], ◌∷◌, is_some, IfSome};
+ghost use Rattle.std.specs.Result.{result_map_both};
 ghost use Rattle.rules.specs.Calls.{ask_signal, ask_name, verdict, entry_section, not_laid, not_in_use};
-ghost use Rattle.rules.specs.Detection.{legal_section};
 ghost use Rattle.rules.specs.Lines.{in_use};
 ghost use Rattle.rules.specs.Signals.{has_signal, distance_to};
-ghost use Rattle.rules.specs.Table.{answer, outcome, topmost};
+ghost use Rattle.rules.specs.Table.{answer, topmost};
 ghost use Rattle.line.specs.Asked.{signal_at, section_named};
 ghost use Rattle.line.specs.Frames.{trackless, nothing_shown};
 
 use crate::frame::Frame;
-use crate::places::{is_road, road_section, station_of};
+use crate::places::{Road, Section, place_from};
 use crate::search::search;
 use rules::line::Station;
 use rules::refusal::Refusal;
 
-// A signal, by the station that its trains come from and how many places on it is.
+// A signal, by the station that its trains come from and how many places on the place is that it guards.
 #[derive(Clone, Copy)]
 pub(crate) struct Signal {
     pub(crate) station: Station,
     pub(crate) distance: u32,
+    ghost ahead: { 1 ≤ distance },
 }
 
 impl Frame {
@@ -26,7 +27,7 @@ impl Frame {
         ensures { result ≡ has_signal (trackless self.now) station place }
     {
         match station {
-            Station::EndA => 1 <= place && place <= self.blocks() + 1,
+            Station::EndA => (1..=self.blocks() + 1).contains(&place),
             Station::EndB => place <= self.blocks(),
         }
     }
@@ -34,24 +35,15 @@ impl Frame {
     pub(crate) fn distance_to(&self, station: Station, place: u32) -> u32
         ensures { result ≡ distance_to (trackless self.now) station place }
     {
-        match station {
-            Station::EndA => place,
-            Station::EndB => (self.blocks() + 1).saturating_sub(place),
-        }
+        place_from(self.blocks(), station, place)
     }
 
     pub(crate) fn check_signal(&self, station: u32, place: u32) -> Result<Signal, Refusal>
-        ensures row { result ≡ answer
-            (verdict nothing_shown (trackless self.now) (ask_signal station place))
+        ensures { result_map_both (λ at. (at.station, at.distance)) (λ refusal. refusal) result
+            ≡ answer (verdict nothing_shown (trackless self.now) (ask_signal station place))
             (signal_at (trackless self.now) station place) }
-        ensures ahead { IfOk result (λ at. 1 ≤ at.distance) }
     {
-        if !self.is_laid() {
-            return Err(Refusal::NotLaid);
-        }
-        let Some(station) = station_of(station) else {
-            return Err(Refusal::NoStation);
-        };
+        let station = self.station(station)?;
         if !self.has_signal(station, place) {
             return Err(Refusal::NoSection);
         }
@@ -61,27 +53,29 @@ impl Frame {
         })
     }
 
-    pub(crate) fn is_in_use(&self, section: u32) -> bool
-        ensures is { result ≡ in_use (trackless self.now) section }
-        ensures legal { result ≡ true → legal_section section ≡ true }
+    // The section of a number, where it is in use.
+    pub(crate) fn in_use(&self, number: u32) -> Option<Section>
+        ensures is { is_some result ≡ in_use (trackless self.now) number }
+        ensures same { IfSome result (λ section. section.number ≡ number) }
     {
-        self.is_block(section)
-            || is_road(Station::EndA, self.roads(Station::EndA), section)
-            || is_road(Station::EndB, self.roads(Station::EndB), section)
+        if self.is_block(number)
+            || self.last_road(Station::EndA).reaches(number)
+            || self.last_road(Station::EndB).reaches(number)
+        {
+            Some(Section { number })
+        } else {
+            None
+        }
     }
 
-    pub(crate) fn check_in_use(&self, section: u32) -> Result<(), Refusal>
-        ensures row { result ≡ outcome (topmost
-            (not_laid (trackless self.now) ∷ not_in_use (trackless self.now) section ∷ [])) }
-        ensures legal { OnOk result (legal_section section ≡ true) }
+    // The section that a call may be about: the line is laid, and it is in use.
+    pub(crate) fn check_in_use(&self, number: u32) -> Result<Section, Refusal>
+        ensures { result_map_both (λ section. section.number) (λ refusal. refusal) result
+            ≡ answer (topmost
+            (not_laid (trackless self.now) ∷ not_in_use (trackless self.now) number ∷ [])) number }
     {
-        if !self.is_laid() {
-            return Err(Refusal::NotLaid);
-        }
-        if !self.is_in_use(section) {
-            return Err(Refusal::NoSection);
-        }
-        Ok(())
+        self.laid()?;
+        self.in_use(number).ok_or(Refusal::NoSection)
     }
 
     // The section of an entry of the plan.
@@ -94,9 +88,9 @@ impl Frame {
         if index < blocks {
             index + 1
         } else if index < before_b {
-            road_section(Station::EndA, 1) + (index - blocks)
+            Road::first(Station::EndA).section().number + (index - blocks)
         } else {
-            road_section(Station::EndB, 1) + (index - before_b)
+            Road::first(Station::EndB).section().number + (index - before_b)
         }
     }
 
@@ -106,12 +100,8 @@ impl Frame {
             (verdict nothing_shown (trackless self.now) (ask_name name))
             (section_named (trackless self.now) name) }
     {
-        if !self.is_laid() {
-            return Err(Refusal::NotLaid);
-        }
-        let Some(index) = search(self.plan.as_slice(), name) else {
-            return Err(Refusal::NoSection);
-        };
+        self.laid()?;
+        let index = search(self.plan.as_slice(), name).ok_or(Refusal::NoSection)?;
         Ok(self.entry_section(index as u32))
     }
 }

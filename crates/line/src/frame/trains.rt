@@ -2,17 +2,17 @@
 ghost use Rattle.std.specs.Prelude.{◌≡◌, ◌+◌, ◌<◌, ◌≤◌, true, false, ◌&&◌, [], ◌∷◌, ◌++◌, length, take, drop, IfSome};
 ghost use Rattle.std.specs.Prelude.{IfOk, vec_len, ◌≢◌, nat_le, slice_index_or, slice_set};
 ghost use Rattle.rules.specs.Calls.{train_index, no_train, front_moved, rear_moved, standing, withdraw, follow};
-ghost use Rattle.rules.specs.Calls.{verdict};
+ghost use Rattle.rules.specs.Calls.{verdict, not_laid, no_train_of};
 ghost use Rattle.rules.specs.Lines.{bare, blocks, section_of};
 ghost use Rattle.rules.specs.Detection.{legal_axles};
-ghost use Rattle.rules.specs.Table.{answer, within};
+ghost use Rattle.rules.specs.Table.{answer, topmost, within};
 ghost use Rattle.line.specs.Frames.{trackless, nothing_shown, Becomes, trains_put};
 ghost use Rattle.line.specs.Keeping.{train_kept};
-ghost use Rattle.line.specs.Moves.{taking_off, following};
+ghost use Rattle.line.specs.Moves.{running, taking_off, following};
 
 use crate::frame::plan::MOST_NUMBER;
 use crate::frame::{Frame, MOST};
-use crate::places::{place_from, road_section};
+use crate::places::{Road, Section, place_from};
 use crate::search::search;
 use rules::detection::{FEWEST_AXLES, MOST_AXLES};
 use rules::line::{Station, Train};
@@ -31,10 +31,10 @@ pub(crate) struct Move {
 pub(crate) fn legal_card(number: u32, axles: u32) -> bool
     ensures { result ≡ (within 1 9999 number && legal_axles axles) }
 {
-    match (number, axles) {
-        (1..=MOST_NUMBER, FEWEST_AXLES..=MOST_AXLES) => true,
-        _ => false,
-    }
+    matches!(
+        (number, axles),
+        (1..=MOST_NUMBER, FEWEST_AXLES..=MOST_AXLES)
+    )
 }
 
 // A train that stands in a road.
@@ -52,6 +52,8 @@ pub(crate) fn standing(number: u32, axles: u32, from: Station, road: u32) -> Tra
     }
 }
 
+// That an index is one of the trains, and that a train is in order on the line, stands in the contracts below: both are
+// facts about this frame, which no type of an index or a train can state.
 impl Frame {
     pub(crate) fn trains(&self) -> &[Train]
         ensures { result.now ≡ self.now.trains.items }
@@ -74,18 +76,41 @@ impl Frame {
         self.trains[index]
     }
 
+    // Where the train of a number is among the trains, and the train.
+    pub(crate) fn running(&self, number: u32) -> Result<(usize, Train), Refusal>
+        ensures row { result ≡ answer
+            (topmost (not_laid (trackless self.now) ∷ no_train_of (trackless self.now) number ∷ []))
+            (running (trackless self.now) number) }
+        ensures within { IfOk result (λ found. found.0 < vec_len self.now.trains) }
+        ensures kept { IfOk result (λ found. train_kept (blocks (trackless self.now)) found.1 ≡ true) }
+    {
+        self.laid()?;
+        let index = self.find(number).ok_or(Refusal::NoTrain)?;
+        Ok((index, self.train(index)))
+    }
+
     // The section of a train so many places on from the station that it leaves.
-    pub(crate) fn section_of(&self, train: Train, distance: u32) -> u32
+    pub(crate) fn section_of(&self, train: Train, distance: u32) -> Section
         requires { train_kept (blocks (trackless self.now)) train ≡ true }
-        ensures { result ≡ section_of (blocks (trackless self.now)) train distance }
+        ensures { result.number ≡ section_of (blocks (trackless self.now)) train distance }
     {
         let blocks = self.blocks();
         if distance == 0 {
-            road_section(train.from, train.road)
+            Road {
+                station: train.from,
+                number: train.road,
+            }
+            .section()
         } else if distance <= blocks {
-            place_from(blocks, train.from, distance)
+            Section {
+                number: place_from(blocks, train.from, distance),
+            }
         } else {
-            road_section(train.from.other(), train.into)
+            Road {
+                station: train.from.other(),
+                number: train.into,
+            }
+            .section()
         }
     }
 
@@ -96,25 +121,15 @@ impl Frame {
         ensures is { result ≡ front_moved (trackless self.now) train }
         ensures kept { train_kept (blocks (trackless self.now)) result ≡ true }
     {
-        self.front_on(train)
-    }
-
-    fn front_on(&self, train: Train) -> Train
-        requires { train.front ≤ 16 }
-        ensures { result ≡ front_moved (trackless self.now) train }
-    {
+        let into = if train.front == self.blocks() {
+            self.levers(train.from.other()).home
+        } else {
+            0
+        };
         Train {
-            number: train.number,
-            axles: train.axles,
-            from: train.from,
-            road: train.road,
-            rear: train.rear,
             front: train.front + 1,
-            into: if train.front == self.blocks() {
-                self.levers(train.from.other()).home
-            } else {
-                0
-            },
+            into,
+            ..train
         }
     }
 
@@ -127,13 +142,8 @@ impl Frame {
             return standing(train.number, train.axles, train.from.other(), train.into);
         }
         Train {
-            number: train.number,
-            axles: train.axles,
-            from: train.from,
-            road: train.road,
             rear: train.rear + 1,
-            front: train.front,
-            into: train.into,
+            ..train
         }
     }
 
@@ -144,19 +154,13 @@ impl Frame {
             (taking_off (trackless self.now) number) }
         ensures within { IfOk result (λ move. move.index < vec_len self.now.trains) }
     {
-        if !self.is_laid() {
-            return Err(Refusal::NotLaid);
-        }
-        let Some(index) = self.find(number) else {
-            return Err(Refusal::NoTrain);
-        };
-        let train = self.train(index);
+        let (index, train) = self.running(number)?;
         if train.front != 0 {
             return Err(Refusal::TrainAway);
         }
         Ok(Move {
             index,
-            section: self.section_of(train, 0),
+            section: self.section_of(train, 0).number,
             axles: train.axles,
             train,
         })
@@ -170,19 +174,13 @@ impl Frame {
         ensures within { IfOk result (λ move. move.index < vec_len self.now.trains) }
         ensures kept { IfOk result (λ move. train_kept (blocks (trackless self.now)) move.train ≡ true) }
     {
-        if !self.is_laid() {
-            return Err(Refusal::NotLaid);
-        }
-        let Some(index) = self.find(number) else {
-            return Err(Refusal::NoTrain);
-        };
-        let train = self.train(index);
+        let (index, train) = self.running(number)?;
         if train.rear == train.front {
             return Err(Refusal::NothingBehind);
         }
         Ok(Move {
             index,
-            section: self.section_of(train, train.rear),
+            section: self.section_of(train, train.rear).number,
             axles: train.axles,
             train: self.rear_moved(train),
         })

@@ -1,22 +1,18 @@
 use Rattle.std.proofs.Common.{refl}
-use Rattle.std.proofs.lemmas.Result.{err_from_is_err_and}
-use Rattle.line.proofs.Histories.{ends_so}
-use Rattle.line.proofs.Exits.{turned_down, carried_out}
+use Rattle.line.proofs.Ending.{ends_turned_down, ends_carried_out}
 use Rattle.line.proofs.Line.close.Goals as goal
 
 pub returns-in_err-check_close : goal.returns-in_err-check_close
-returns-in_err-check_close g c =
-    let p = err_from_is_err_and c.from_residual.result c.from_residual.ensures.1 in
-    rw (p.1, p.2) (record {
-      ends = ends_so (g.met.L.Lamps.stops _) (g.met.L.Lamps.proceeds _) g.met.T.Track.marked
-          (turned_down _ _ _ _ _ _ _ c.in_err-check_close.ensures.row);
-      lamps = refl;
-    })
+returns-in_err-check_close g c = record {
+  ends = ends_turned_down (g.met.L.Lamps.stops _) (g.met.L.Lamps.proceeds _) g.met.T.Track.marked
+      _ c.from_residual.ensures.1 c.in_err-check_close.ensures.row;
+  lamps = refl;
+}
 
 pub returns : goal.returns
-returns g c =
-    rw (c.new-slip.ensures, c.number.ensures) (record {
-      ends = ends_so (g.met.L.Lamps.stops _) (g.met.L.Lamps.proceeds _) g.met.T.Track.marked
-          (carried_out _ _ _ _ _ _ _ _ c.in_ok-check_close.ensures.row (λ _. c.put_closed.ensures _));
-      lamps = refl;
-    })
+returns g c = record {
+  ends = rw (c.new-slip.ensures, c.number.ensures)
+      (ends_carried_out (g.met.L.Lamps.stops _) (g.met.L.Lamps.proceeds _) g.met.T.Track.marked
+      _ _ c.in_ok-check_close.ensures.row (λ _. c.put_closed.ensures _));
+  lamps = refl;
+}

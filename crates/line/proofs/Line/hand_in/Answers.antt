@@ -1,21 +1,24 @@
 use Rattle.std.proofs.Common.{refl}
-use Rattle.line.proofs.Histories.{ends_so}
-use Rattle.line.proofs.Exits.{turned_down, carried_out}
+use Rattle.line.proofs.Ending.{ends_at_check, ends_carried_out}
 use Rattle.line.proofs.Line.hand_in.Goals as goal
 
 pub returns-in-Err : goal.returns-in-Err
 returns-in-Err g c = record {
-  ends = ends_so (g.met.L.Lamps.stops _) (g.met.L.Lamps.proceeds _) g.met.T.Track.marked (turned_down _ _ _ _ _ _ _
-      (rw (c.line.ensures, c.block.ensures) at c.in-Err.ensures.row));
+  works = record {
+    ends = ends_at_check (g.met.L.Lamps.stops _) (g.met.L.Lamps.proceeds _) g.met.T.Track.marked
+        _ (rw (c.line.ensures, c.block.ensures) at c.in-Err.ensures.row);
+    lamps = refl;
+  };
   back = refl;
-  lamps = refl;
 }
 
 pub returns-in-Ok : goal.returns-in-Ok
 returns-in-Ok g c = record {
-  ends = ends_so (g.met.L.Lamps.stops _) (g.met.L.Lamps.proceeds _) g.met.T.Track.marked (carried_out _ _ _ _ _ _ _ _
-      (rw (c.line.ensures, c.block.ensures) at c.in-Ok.ensures.row)
-      (λ _. rw c.block-in-Ok.ensures at (c.put_closed.ensures (g.T.Track.cells c.args.self.now.track))));
+  works = record {
+    ends = ends_carried_out (g.met.L.Lamps.stops _) (g.met.L.Lamps.proceeds _) g.met.T.Track.marked
+        _ _ (rw (c.line.ensures, c.block.ensures) at c.in-Ok.ensures.row)
+        (λ _. rw c.block-in-Ok.ensures at (c.put_closed.ensures (g.T.Track.cells c.args.self.now.track)));
+    lamps = refl;
+  };
   back = tt;
-  lamps = refl;
 }

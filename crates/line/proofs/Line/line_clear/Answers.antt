@@ -1,11 +1,17 @@
-use Rattle.std.proofs.Common.{◌≡◌, ◌+◌, ◌-◌, arith}
-use Rattle.rules.specs.Lines.{blocks}
+use Rattle.std.proofs.Common.{rules, ◌∙◌, refl, arith}
+use Rattle.std.proofs.lemmas.Iterator.Search.{all_from_yields_List}
+use Rattle.rules.specs.Calls.{all_clear}
+use Rattle.rules.specs.Lines.{blocks, clear}
 use Rattle.line.specs.Worlds.{world}
-use Rattle.line.proofs.Clear.{line_is_clear}
+use Rattle.line.proofs.Ranges.{YieldsList-from_inclusive, all_down}
 use Rattle.line.proofs.Line.line_clear.Goals as goal
 
 pub returns : goal.returns
 returns g c =
     let line = world g.T.Track.cells c.args.self.now in
-    let all : (blocks line + 1) - 1 ≡ blocks line = omega arith in
-    rw (c.run_ahead.ensures.is, c.blocks-2.ensures.is, all) (line_is_clear line (blocks line))
+    let range = c.new.ensures in
+    all_from_yields_List (clear line) _ _ c.all.result c.all.ensures.ran
+    (YieldsList-from_inclusive 1 (blocks line) (blocks line) range.start (range.end ∙ c.blocks-2.ensures.is)
+    range.exhausted (omega arith))
+    (λ x b q k. search rules)
+    ∙ all_down (clear line) (all_clear line) refl (λ n. refl) (blocks line)

@@ -1,54 +1,28 @@
-use Rattle.std.proofs.Common.{◌≡◌, ◌+◌, ◌-◌, sym, arith}
-use Rattle.rules.specs.Signals.{clear_run}
+use Rattle.std.proofs.Common.{ℕ, ◌+◌, ◌-◌, rules, refl, ap, ◌∙◌}
+use Rattle.std.proofs.lemmas.Iterator.Consumers.{count_from_yields_List}
+use Rattle.std.proofs.lemmas.Iterator.Search.{YieldsList-from_take_while}
+use Rattle.std.proofs.lemmas.List.Folds.{length-prefix_len}
+use Rattle.std.specs.Range.{range_inclusive_start, range_inclusive_end, range_inclusive_exhausted}
+use Rattle.rules.specs.Lines.{blocks, clear}
+use Rattle.rules.specs.Stations.{place_from}
 use Rattle.line.specs.Worlds.{world}
-use Rattle.line.proofs.Clear.{one_more, no_more, run_short}
+use Rattle.line.proofs.Clear.{run_counted}
+use Rattle.line.proofs.Ranges.{YieldsList-from_inclusive}
 use Rattle.line.proofs.Line.run_ahead.Goals as goal
 
-pub returns-then-not-is_clear : goal.returns-then-not-is_clear
-returns-then-not-is_clear g c =
+pub returns-clause-is : goal.returns-clause-is
+returns-clause-is g c =
+    let at = c.args.at in
     let line = world g.T.Track.cells c.args.self.now in
-    let same = c.blocks-blocks.ensures.is in
-    let dark = sym c.if-not-is_clear.ensures in
-    let run = no_more line c.args.station c.args.distance c.loop-at.at c.loop-at.run
-    (c.blocks-blocks.result + 1) (omega arith) c.loop-at.invariant.1
-    (rw (sym same, sym c.place_from.ensures) dark) in
-    record {
-      is = rw (sym same) run;
-      within = omega (
-        arith,
-        run,
-        same,
-        run_short line c.args.station c.args.distance
-            ((c.blocks-blocks.result + 1) - c.args.distance),
-      );
-    }
-
-pub loop-at-preserved : goal.loop-at-preserved
-loop-at-preserved g c =
-    let line = world g.T.Track.cells c.args.self.now in
-    let same = c.blocks-blocks.ensures.is in
-    let bright = sym c.if-not-is_clear.ensures in (
-      omega arith,
-      one_more line c.args.station c.args.distance c.loop-at.at c.loop-at.run
-          (c.blocks-blocks.result + 1) (omega arith) c.loop-at.invariant.1
-          (rw (sym same, sym c.place_from.ensures) bright),
-    )
-
-pub returns : goal.returns
-returns g c =
-    let line = world g.T.Track.cells c.args.self.now in
-    let same = c.blocks-blocks.ensures.is in
-    let none : (c.blocks-blocks.result + 1) - c.loop-at.at ≡ 0 = omega arith in
-    let run : c.loop-at.run
-    ≡ clear_run line c.args.station c.args.distance ((c.blocks-blocks.result + 1) - c.args.distance) =
-    omega (arith, rw none at c.loop-at.invariant.1) in
-    record {
-      is = rw (sym same) run;
-      within = omega (
-        arith,
-        run,
-        same,
-        run_short line c.args.station c.args.distance
-            ((c.blocks-blocks.result + 1) - c.args.distance),
-      );
-    }
+    let is_clear = λ (k : ℕ). clear line (place_from (blocks line) at.station k) in
+    let n = (blocks line + 1) - at.distance in
+    let asked = c.take_while.ensures in
+    let range = c.new.ensures in
+    count_from_yields_List _ c.count.result c.count.ensures.ran
+    (YieldsList-from_take_while _ is_clear
+    (YieldsList-from_inclusive at.distance (blocks line) n (ap range_inclusive_start asked.source ∙ range.start)
+    (ap range_inclusive_end asked.source ∙ range.end ∙ c.blocks-2.ensures.is)
+    (ap range_inclusive_exhausted asked.source ∙ range.exhausted) refl)
+    asked.closure asked.done (λ x b q k. search rules))
+    ∙ length-prefix_len is_clear _
+    ∙ run_counted line at.station at.distance n
