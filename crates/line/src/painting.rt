@@ -18,7 +18,7 @@ use track::Track;
 // beside the numbers of both, and section states have theirs already.
 const MISSING: u8 = 255;
 
-// What is painted for a closed and vacant block.
+// What is painted for a closed and vacant block: the number after those of the section states.
 const CLOSED: u8 = 3;
 
 impl<T: Track, L: Lamps> Line<T, L> {

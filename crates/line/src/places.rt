@@ -29,7 +29,7 @@ pub(crate) struct Section {
     ghost legal: { legal_section number ≡ true },
 }
 
-// A road of a station; its number is 0 where a lever or a train has none.
+// A road of a station. Its number is 0 where a lever or a train has none, as levers and trains keep it themselves.
 #[derive(Clone, Copy)]
 pub(crate) struct Road {
     pub(crate) station: Station,

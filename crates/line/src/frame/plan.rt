@@ -78,7 +78,7 @@ fn copy(into: &mut Vec<PlanEntry>, plan: &[PlanEntry])
     }
 }
 
-// A loop adds them up, as the rules have it.
+// A loop over the plan's part, as docs/DECISIONS.md has the form of a signal's metres.
 fn sum_metres(part: &[PlanEntry]) -> u32
     requires kept { list_all entry_kept part.now ≡ true }
     requires few { length part.now ≤ 24 }
