@@ -58,7 +58,7 @@ impl Frame {
         ensures is { is_some result ≡ in_use (trackless self.now) number }
         ensures same { IfSome result (λ section. section.number ≡ number) }
     {
-        if self.is_block(number)
+        if self.block(number).is_some()
             || self.last_road(Station::EndA).reaches(number)
             || self.last_road(Station::EndB).reaches(number)
         {
