@@ -21,7 +21,7 @@ impl<T: Track, L: Lamps> Line<T, L> {
             (close block) (slip_for (world T.cells self.old) block) result self.new }
     {
         let block = self.check_close(block)?;
-        let slip = Slip::new(self.frame.number(), block.number);
+        let slip = Slip::new(self.frame.numbers().number, block.number);
         self.frame.put_closed(block, true);
         Ok(slip)
     }

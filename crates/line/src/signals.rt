@@ -74,7 +74,7 @@ impl<T: Track, L: Lamps> Line<T, L> {
             station,
             distance: 1,
         });
-        if levers.sends && levers.starter != 0 && self.frame.reach() <= run {
+        if levers.sends && levers.starter != 0 && self.frame.numbers().reach <= run {
             run
         } else {
             0

@@ -39,7 +39,7 @@ impl Frame {
             ≡ answer (verdict nothing_shown (trackless self.now) (hand_in number block)) block }
     {
         let block = self.check_block(block)?;
-        if number != self.number() || !self.closed_at(block.number) {
+        if number != self.numbers().number || !self.closed_at(block.number) {
             return Err(Refusal::StrangeSlip);
         }
         Ok(block)

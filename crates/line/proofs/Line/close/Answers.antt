@@ -12,7 +12,7 @@ returns-in_err-block g c = record {
 
 pub returns : goal.returns
 returns g c = record {
-  ends = rw (c.new-slip.ensures, c.number.ensures, (passed _ _ _ c.in_ok-block.ensures).1)
+  ends = rw (c.new-slip.ensures, c.numbers.ensures, (passed _ _ _ c.in_ok-block.ensures).1)
       (ends_carried_out (g.met.L.Lamps.stops _) (g.met.L.Lamps.proceeds _) g.met.T.Track.marked
       _ _ c.in_ok-block.ensures (λ is. rw is at (c.put_closed.ensures (g.T.Track.cells c.args.self.now.track))));
   lamps = refl;
