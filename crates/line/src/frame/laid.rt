@@ -87,9 +87,10 @@ impl Frame {
         ensures is { result ≡ roads (trackless self.now) station }
         ensures few { result ≤ 4 }
     {
+        let numbers = self.numbers();
         match station {
-            Station::EndA => self.numbers().roads_a,
-            Station::EndB => self.numbers().roads_b,
+            Station::EndA => numbers.roads_a,
+            Station::EndB => numbers.roads_b,
         }
     }
 

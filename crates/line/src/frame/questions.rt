@@ -32,12 +32,6 @@ impl Frame {
         }
     }
 
-    fn distance_to(&self, station: Station, place: u32) -> u32
-        ensures { result ≡ distance_to (trackless self.now) station place }
-    {
-        place_from(self.blocks(), station, place)
-    }
-
     // The signal that guards a place, for trains from a station, where there is one.
     pub(crate) fn signal(&self, station: Station, place: u32) -> Option<Signal>
         ensures is { is_some result ≡ has_signal (trackless self.now) station place }
@@ -47,7 +41,7 @@ impl Frame {
         if self.has_signal(station, place) {
             Some(Signal {
                 station,
-                distance: self.distance_to(station, place),
+                distance: place_from(self.blocks(), station, place),
             })
         } else {
             None
