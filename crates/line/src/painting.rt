@@ -6,7 +6,6 @@ ghost use Rattle.rules.specs.Table.{answer, after};
 ghost use Rattle.line.specs.Worlds.{world};
 
 use crate::Line;
-use crate::frame::questions::Signal;
 use lamps::Lamps;
 use panel::PANEL_BYTES;
 use rules::detection::SectionState;
@@ -103,11 +102,9 @@ impl<T: Track, L: Lamps> Line<T, L> {
         ensures { result ≡ signal_byte (L.shows self.now.lamps) (world T.cells self.now)
             station place }
     {
-        if !self.frame.has_signal(station, place) {
-            return MISSING;
-        }
-        let distance = self.frame.distance_to(station, place);
-        self.aspect_at(Signal { station, distance }).number()
+        self.frame
+            .signal(station, place)
+            .map_or(MISSING, |at| self.aspect_at(at).number())
     }
 
     // Lit where turning the direction lever over would be turned down: the lever itself is asked.
