@@ -45,11 +45,6 @@ metres_from_b line d i (suc c) at within =
     ∙ ap (λ entry. metres_sum (take c (drop i plan)) + entry.metres) (get_or-drop i plan c no_entry) in
     rw last (omega (arith, rest, rw add-one at back))
 
--- such blocks lie within the line
-pub part_within : (n : ℕ) (station : Station) (d c : ℕ) → 1 ≤ d → c + d ≤ n + 1 → part_start n station d c + c ≤ n
-part_within n EndA d c low high = omega arith
-part_within n EndB d c low high = omega arith
-
 pub metres_of_part : (line : Line) (station : Station) (d c : ℕ) → 1 ≤ d → c + d ≤ blocks line + 1
     → blocks line ≤ length line.plan
     → metres_from line station d c ≡ metres_sum (take c (drop (part_start (blocks line) station d c) line.plan))

@@ -1,17 +1,12 @@
 -- A plan, entry by entry.
-use Rattle.std.proofs.Common.{◌≡◌, ℕ, ◌≤◌, true, leb, List, [], ◌∷◌}
-use Rattle.std.proofs.Common.{refl, arith}
+use Rattle.std.proofs.Common.{◌≡◌, true, List, [], ◌∷◌, refl, arith}
 use Rattle.std.specs.List.{list_all}
-use Rattle.std.proofs.lemmas.Bool.{and_parts, and_from, leb-true, le-leb, lt-ltb}
+use Rattle.std.proofs.lemmas.Bool.{and_parts, and_from, le-leb, lt-ltb}
 use Rattle.rules.specs.Calls.{legal_entry, legal_entries}
 use Rattle.rules.specs.Table.{within}
 use Rattle.rules.specs.declared.line.PlanEntry.{PlanEntry}
 use Rattle.line.specs.Keeping.{entry_kept}
-
-pub within_limits : (low high n : ℕ) → within low high n ≡ true → (low ≤ n) × (n ≤ high)
-within_limits low high n h =
-    let both = and_parts (leb low n) (leb n high) h in
-    (leb-true low n both.0, leb-true n high both.1)
+use Rattle.promises.proofs.LayingCall.{within_limits}
 
 -- a legal entry keeps to its limits
 pub legal_kept : (plan : List PlanEntry) → legal_entries plan ≡ true → list_all entry_kept plan ≡ true

@@ -36,6 +36,7 @@ train_kept n train =
     nat_lt 0 train.number && nat_le train.rear train.front && nat_le train.front (n + 1)
     && nat_le train.road 4 && nat_le train.into 4
 
+-- Every train is in order, and a bare line has none.
 abbrev pub trains_kept : Option Laying → List Train → Bool
 trains_kept laying trains =
     (is_some laying || length trains == 0) && list_all (train_kept (blocks_laid laying)) trains

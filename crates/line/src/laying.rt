@@ -1,5 +1,5 @@
 // A new line, and laying it.
-ghost use Rattle.std.specs.Prelude.{◌≡◌, true, IfOk, IfErr, OnOk};
+ghost use Rattle.std.specs.Prelude.{◌≡◌, ◌&&◌, true, IfOk, IfErr, OnOk};
 ghost use Rattle.rules.specs.Calls.{lay, verdict, all_vacant, legal_laying, legal_plan, ask_name};
 ghost use Rattle.rules.specs.Lines.{new_line, bare};
 ghost use Rattle.rules.specs.Table.{answer};
@@ -9,7 +9,7 @@ ghost use Rattle.line.specs.Worlds.{world};
 
 use crate::Line;
 use crate::frame::Frame;
-use crate::frame::plan::{legal_laying, legal_plan};
+use crate::frame::plan::legal_to_lay;
 use lamps::Lamps;
 use rules::detection::LAST_SECTION;
 use rules::line::{Laying, PlanEntry, Train};
@@ -53,13 +53,12 @@ impl<T: Track, L: Lamps> Line<T, L> {
             (verdict (L.shows self.now.lamps) (world T.cells self.now)
             (lay laying plan.now)) tt }
         ensures bare { OnOk result (bare (world T.cells self.now) ≡ true) }
-        ensures numbers { OnOk result (legal_laying laying ≡ true) }
-        ensures entries { OnOk result (legal_plan laying plan.now ≡ true) }
+        ensures legal { OnOk result ((legal_laying laying && legal_plan laying plan.now) ≡ true) }
     {
         if self.frame.is_laid() {
             return Err(Refusal::Laid);
         }
-        if !legal_laying(laying) || !legal_plan(laying, plan) || !self.all_vacant() {
+        if !legal_to_lay(laying, plan) || !self.all_vacant() {
             return Err(Refusal::BadPlan);
         }
         Ok(())

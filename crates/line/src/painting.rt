@@ -6,7 +6,6 @@ ghost use Rattle.rules.specs.Table.{answer, after};
 ghost use Rattle.line.specs.Worlds.{world};
 
 use crate::Line;
-use crate::frame::questions::Signal;
 use lamps::Lamps;
 use panel::PANEL_BYTES;
 use rules::detection::SectionState;
@@ -18,7 +17,7 @@ use track::Track;
 // beside the numbers of both, and section states have theirs already.
 const MISSING: u8 = 255;
 
-// What is painted for a closed and vacant block.
+// What is painted for a closed and vacant block: the number after those of the section states.
 const CLOSED: u8 = 3;
 
 impl<T: Track, L: Lamps> Line<T, L> {
@@ -103,11 +102,9 @@ impl<T: Track, L: Lamps> Line<T, L> {
         ensures { result ≡ signal_byte (L.shows self.now.lamps) (world T.cells self.now)
             station place }
     {
-        if !self.frame.has_signal(station, place) {
-            return MISSING;
-        }
-        let distance = self.frame.distance_to(station, place);
-        self.aspect_at(Signal { station, distance }).number()
+        self.frame
+            .signal(station, place)
+            .map_or(MISSING, |at| self.aspect_at(at).number())
     }
 
     // Lit where turning the direction lever over would be turned down: the lever itself is asked.

@@ -29,7 +29,25 @@ pub(crate) struct Section {
     ghost legal: { legal_section number ≡ true },
 }
 
-// A road of a station; its number is 0 where a lever or a train has none.
+// A block of the longest line.
+#[derive(Clone, Copy)]
+pub(crate) struct Block {
+    pub(crate) number: u32,
+    ghost low: { 1 ≤ number },
+    ghost high: { number ≤ 16 },
+}
+
+impl Block {
+    pub(crate) fn section(self) -> Section
+        ensures { result.number ≡ self.number }
+    {
+        Section {
+            number: self.number,
+        }
+    }
+}
+
+// A road of a station. Its number is 0 where a lever or a train has none, as levers and trains keep it themselves.
 #[derive(Clone, Copy)]
 pub(crate) struct Road {
     pub(crate) station: Station,

@@ -1,5 +1,6 @@
 // Closing a block and handing its slip in.
-ghost use Rattle.std.specs.Prelude.{◌≡◌, ◌≤◌, OnOk};
+ghost use Rattle.std.specs.Prelude.{◌≡◌};
+ghost use Rattle.std.specs.Result.{result_map_both};
 ghost use Rattle.rules.specs.Calls.{close, hand_in, verdict};
 ghost use Rattle.rules.specs.Table.{answer};
 ghost use Rattle.line.specs.Slips.{slip_for, without_slip, GivenBack};
@@ -7,7 +8,7 @@ ghost use Rattle.line.specs.Works.{Works};
 ghost use Rattle.line.specs.Worlds.{world};
 
 use crate::Line;
-use crate::places::Section;
+use crate::places::Block;
 use crate::slip::Slip;
 use lamps::Lamps;
 use rules::refusal::Refusal;
@@ -19,22 +20,22 @@ impl<T: Track, L: Lamps> Line<T, L> {
         ensures { Works L.shows T.mark T.cells self.old
             (close block) (slip_for (world T.cells self.old) block) result self.new }
     {
-        self.check_close(block)?;
-        let slip = Slip::new(self.frame.number(), block);
+        let block = self.check_close(block)?;
+        let slip = Slip::new(self.frame.numbers().number, block.number);
         self.frame.put_closed(block, true);
         Ok(slip)
     }
 
-    fn check_close(&self, block: u32) -> Result<(), Refusal>
-        ensures row { result ≡ answer
-            (verdict (L.shows self.now.lamps) (world T.cells self.now) (close block)) tt }
-        ensures block { OnOk result ((1 ≤ block) × (block ≤ 16)) }
+    // The block that may be closed.
+    fn check_close(&self, number: u32) -> Result<Block, Refusal>
+        ensures { result_map_both (λ block. block.number) (λ refusal. refusal) result
+            ≡ answer (verdict (L.shows self.now.lamps) (world T.cells self.now) (close number)) number }
     {
-        self.frame.check_block(block)?;
-        if !self.is_clear(Section { number: block }) {
+        let block = self.frame.check_block(number)?;
+        if !self.is_clear(block.section()) {
             return Err(Refusal::NotClear);
         }
-        Ok(())
+        Ok(block)
     }
 
     // Opens the block that a slip is out on and spends the slip, or gives it back.
@@ -45,8 +46,8 @@ impl<T: Track, L: Lamps> Line<T, L> {
     {
         match self.frame.check_hand_in(slip.line(), slip.block()) {
             Err(refusal) => Err((refusal, slip)),
-            Ok(()) => {
-                self.frame.put_closed(slip.block(), false);
+            Ok(block) => {
+                self.frame.put_closed(block, false);
                 slip.spend();
                 Ok(())
             }

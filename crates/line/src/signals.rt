@@ -1,5 +1,5 @@
 // What a signal has ahead of it, and what it shows. The trains are never asked.
-ghost use Rattle.std.specs.Prelude.{◌≡◌, ◌+◌, ◌-◌, ◌≤◌};
+ghost use Rattle.std.specs.Prelude.{◌≡◌, ◌≤◌};
 ghost use Rattle.rules.specs.Calls.{all_clear, ask_signal, verdict};
 ghost use Rattle.rules.specs.Lines.{clear, blocks};
 ghost use Rattle.rules.specs.Signals.{run_ahead, starter_count, block_count, home_count};
@@ -50,8 +50,7 @@ impl<T: Track, L: Lamps> Line<T, L> {
 
     // How many blocks are clear one after the other ahead of a signal.
     fn run_ahead(&self, at: Signal) -> u32
-        ensures is { result ≡ run_ahead (world T.cells self.now) at.station at.distance }
-        ensures within { result ≤ (blocks (world T.cells self.now) + 1) - at.distance }
+        ensures { result ≡ run_ahead (world T.cells self.now) at.station at.distance }
     {
         (at.distance..=self.frame.blocks())
             .take_while(|&distance| self.is_clear_ahead(at.station, distance))
@@ -66,15 +65,14 @@ impl<T: Track, L: Lamps> Line<T, L> {
     }
 
     fn starter_count(&self, station: Station) -> u32
-        ensures is { result ≡ starter_count (world T.cells self.now) station }
-        ensures within { result ≤ (blocks (world T.cells self.now) + 1) - 1 }
+        ensures { result ≡ starter_count (world T.cells self.now) station }
     {
         let levers = self.frame.levers(station);
         let run = self.run_ahead(Signal {
             station,
             distance: 1,
         });
-        if levers.sends && levers.starter != 0 && self.frame.reach() <= run {
+        if levers.sends && levers.starter != 0 && self.frame.numbers().reach <= run {
             run
         } else {
             0
@@ -82,8 +80,7 @@ impl<T: Track, L: Lamps> Line<T, L> {
     }
 
     fn block_count(&self, at: Signal) -> u32
-        ensures is { result ≡ block_count (world T.cells self.now) at.station at.distance }
-        ensures within { result ≤ (blocks (world T.cells self.now) + 1) - at.distance }
+        ensures { result ≡ block_count (world T.cells self.now) at.station at.distance }
     {
         if self.frame.levers(at.station).sends {
             self.run_ahead(at)
@@ -105,9 +102,7 @@ impl<T: Track, L: Lamps> Line<T, L> {
 
     // The clear sections ahead of a signal.
     fn count_at(&self, at: Signal) -> u32
-        ensures is { result ≡ count_at (world T.cells self.now) at.station at.distance }
-        ensures within { at.distance ≤ blocks (world T.cells self.now)
-            → result ≤ (blocks (world T.cells self.now) + 1) - at.distance }
+        ensures { result ≡ count_at (world T.cells self.now) at.station at.distance }
     {
         if at.distance == 1 {
             self.starter_count(at.station)

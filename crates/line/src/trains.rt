@@ -38,6 +38,9 @@ impl<T: Track, L: Lamps> Line<T, L> {
         Ok(())
     }
 
+    // Withdrawing, follow and advance each ask, tell the track and change the trains by calls of their own: one function
+    // over them would take a closure for each of its three lines.
+
     // Takes a train that stands in a road off the line.
     pub fn withdraw(&mut self, number: u32) -> Result<(), Refusal>
         ensures { Works L.shows T.mark T.cells self.old (withdraw number) tt result self.new }

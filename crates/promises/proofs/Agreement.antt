@@ -1,5 +1,5 @@
 -- Trains, closings and track agree, and an entering or a leaving that the track is told of keeps it so.
-use Rattle.std.proofs.Common.{◌≡◌, ℕ, ◌+◌, ◌-◌, ◌*◌, ◌≤◌, Bool, true, false, cond, eqb, List, length, get_or, set}
+use Rattle.std.proofs.Common.{◌≡◌, ℕ, ◌+◌, ◌-◌, ◌*◌, ◌≤◌, Bool, true, false, eqb, List, length, get_or, set}
 use Rattle.std.proofs.Common.{Some, None, Option, refl, ap, ◌∙◌, inl, inr, one-mul, zero-mul, arith}
 use Rattle.std.proofs.lemmas.List.{length-set, get_or-set_same, get_or-set_other, get_or_past, set_past}
 use Rattle.std.proofs.lemmas.Bool.{cases_Bool, cases_eq, cases_lt, eqb-true, eq-eqb, both_ways, not-false}
@@ -23,10 +23,6 @@ enter_taken mark cells t axles legal good vacant = rw (legal, good, vacant)
 leave_taken : (mark : ℕ → ℕ) (cells : List Cell) (t axles : ℕ) → legal_section t ≡ true → legal_axles axles ≡ true
     → (cell_of cells t).held ≡ mark axles → track_verdict mark cells (Leave t axles) ≡ None
 leave_taken mark cells t axles legal good same = rw (legal, good, eq-eqb _ _ same)
-
-changed_held : (b : Bool) (cell : Cell) (h : ℕ) → (cond b (with_held cell h) cell).held ≡ cond b h cell.held
-changed_held true cell h = refl
-changed_held false cell h = refl
 
 module _ (mark : ℕ → ℕ) (n : ℕ) (trains then : List Train) (closed : List Bool) (cells : List Cell) (t axles : ℕ)
     (legal : legal_section t ≡ true) (good : legal_axles axles ≡ true) (agree : Agree mark n trains closed cells) where

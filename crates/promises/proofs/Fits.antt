@@ -1,5 +1,5 @@
 -- How each train fits the line, and what its sections are.
-use Rattle.std.proofs.Common.{◌≡◌, ℕ, ◌+◌, ◌<◌, ◌≤◌, true, refl, inl, inr, arith}
+use Rattle.std.proofs.Common.{◌≡◌, ℕ, ◌+◌, ◌<◌, ◌≤◌, true, inl, inr, arith}
 use Rattle.std.proofs.lemmas.Bool.{ne_eqb, le-leb, lt-leb, and_from, cases_lt}
 use Rattle.rules.specs.Detection.{legal_section}
 use Rattle.rules.specs.Lines.{section_of}
@@ -10,9 +10,6 @@ use Rattle.rules.specs.declared.line.Train.{Train}
 use Rattle.promises.specs.Sound.{Fits, Limits}
 
 -- the three kinds of section that a train can hold
-in_road : (n : ℕ) (train : Train) → section_of n train 0 ≡ road_section train.from train.road
-in_road n train = refl
-
 pub in_block : (n : ℕ) (train : Train) (d : ℕ) → 1 ≤ d → d ≤ n → section_of n train d ≡ place_from n train.from d
 in_block n train d low high = rw (ne_eqb d 0 (λ e. omega arith), le-leb d n high)
 

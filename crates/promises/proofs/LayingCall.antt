@@ -15,8 +15,8 @@ use Rattle.rules.specs.declared.line.Station.TheVariants.{EndA, EndB}
 use Rattle.promises.specs.Sound.{Blank, LeversRight, Sound}
 use Rattle.rules.proofs.TrackRuns.{in_reach, vacant_holds_none}
 
-bounds : (low high n : ℕ) → within low high n ≡ true → (low ≤ n) × (n ≤ high)
-bounds low high n h =
+pub within_limits : (low high n : ℕ) → within low high n ≡ true → (low ≤ n) × (n ≤ high)
+within_limits low high n h =
     let both = and_parts (leb low n) (leb n high) h in
     (leb-true low n both.0, leb-true n high both.1)
 
@@ -59,8 +59,8 @@ good_parts line laying plan h =
     record { blocks_in = a.0; roads_a_in = a.1; roads_b_in = b.1; reach_in = reach.1; vacant = track.1 }
 
 few_roads : (line : Line) (laying : Laying) → Good line laying → (station : Station) → roads_of laying station ≤ 4
-few_roads line laying good EndA = (bounds 1 4 (roads_of laying EndA) good.roads_a_in).1
-few_roads line laying good EndB = (bounds 1 4 (roads_of laying EndB) good.roads_b_in).1
+few_roads line laying good EndA = (within_limits 1 4 (roads_of laying EndA) good.roads_a_in).1
+few_roads line laying good EndB = (within_limits 1 4 (roads_of laying EndB) good.roads_b_in).1
 
 -- new levers are right at any station
 normal_right : (roads : ℕ) (levers : Levers) → levers ≡ new_levers → LeversRight roads levers
@@ -75,8 +75,8 @@ pub laid_sound : (mark : ℕ → ℕ) (line : Line) (laying : Laying) (plan : Li
     → good_plan line laying plan ≡ true → Sound mark (as_laid line laying plan)
 laid_sound mark line laying plan blank h =
     let good = good_parts line laying plan h in
-    let n = bounds 1 16 laying.blocks good.blocks_in in
-    let reach = bounds 1 laying.blocks laying.reach good.reach_in in
+    let n = within_limits 1 16 laying.blocks good.blocks_in in
+    let reach = within_limits 1 laying.blocks laying.reach good.reach_in in
     record {
       laid = refl;
       limits = record { some = n.0; most = n.1; few = few_roads line laying good };

@@ -78,16 +78,9 @@ all_clear line (suc n) = clear line (suc n) && all_clear line n
 abbrev pub same_end : Station → Station → Bool
 same_end a b = station_number a == station_number b
 
+-- whether a test holds of some train
 abbrev pub any_train : (Train → Bool) → List Train → Bool
 any_train p trains = list_any p trains
-
--- the same of one train: its rear in the station and its front elsewhere
-abbrev pub half_out : Station → Train → Bool
-half_out station train = same_end train.from station && train.rear == 0 && reversed train.front
-
--- on a line of n blocks, a train's front in the station and its rear elsewhere
-abbrev pub half_in : ℕ → Station → Train → Bool
-half_in n station train = same_end train.from (other_end station) && train.front == n + 1
 
 -- a train's rear in the station and its front elsewhere
 abbrev pub starter_held : Line → Station → Bool

@@ -15,7 +15,7 @@ pub enum Aspect {
 }
 
 impl Aspect {
-    // The number that the case is declared with.
+    // The number that the case is declared with; the name says which number that is, as a From could not.
     pub fn number(self) -> u8
         ensures { result ≡ aspect_number self }
     {

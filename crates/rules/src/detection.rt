@@ -23,7 +23,7 @@ pub enum SectionState {
 }
 
 impl SectionState {
-    // The number that the case is declared with.
+    // The number that the case is declared with; the name says which number that is, as a From could not.
     pub fn number(self) -> u8
         ensures { result ≡ state_number self }
     {

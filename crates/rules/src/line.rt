@@ -13,7 +13,7 @@ pub enum Station {
 }
 
 impl Station {
-    // The number that the case is declared with.
+    // The number that the case is declared with; the name says which number that is, as a From could not.
     pub fn number(self) -> u8
         ensures { result ≡ station_number self }
     {

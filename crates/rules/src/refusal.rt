@@ -36,7 +36,7 @@ pub enum Refusal {
 }
 
 impl Refusal {
-    // The number of the row, which the case is declared with.
+    // The number of the row, which the case is declared with; the name says so, as a From could not.
     pub fn row(self) -> u8
         ensures { result ≡ row_number self }
     {

@@ -8,7 +8,7 @@ use crate::place::Place;
 use rules::detection::{Cell, FEWEST_AXLES, LAST_SECTION, MOST_AXLES, SectionState};
 use rules::refusal::Refusal;
 
-// The place of a section, if there is one.
+// The place of a section, if there is one. Not beside the type: what it promises speaks of a Place.
 impl TryFrom<u32> for Place {
     type Error = Refusal;
 

@@ -1,45 +1,48 @@
 // The blocks on which a slip is out.
-ghost use Rattle.std.specs.Prelude.{◌≡◌, ◌≤◌, true, [], ◌∷◌, OnOk};
+ghost use Rattle.std.specs.Prelude.{◌≡◌, [], ◌∷◌, is_some, IfSome};
+ghost use Rattle.std.specs.Result.{result_map_both};
 ghost use Rattle.rules.specs.Calls.{with_closed, hand_in, verdict, not_laid, no_block};
 ghost use Rattle.rules.specs.Lines.{closed_at, blocks};
-ghost use Rattle.rules.specs.Table.{answer, outcome, topmost, within};
+ghost use Rattle.rules.specs.Table.{answer, topmost, within};
 ghost use Rattle.line.specs.Frames.{trackless, nothing_shown, Becomes};
 
 use crate::frame::Frame;
+use crate::places::Block;
 use rules::refusal::Refusal;
 
 impl Frame {
-    pub(crate) fn is_block(&self, block: u32) -> bool
-        ensures is { result ≡ within 1 (blocks (trackless self.now)) block }
-        ensures few { result ≡ true → block ≤ 16 }
+    // The block of a number, where the line has it.
+    pub(crate) fn block(&self, number: u32) -> Option<Block>
+        ensures is { is_some result ≡ within 1 (blocks (trackless self.now)) number }
+        ensures same { IfSome result (λ block. block.number ≡ number) }
     {
-        (1..=self.blocks()).contains(&block)
+        if (1..=self.blocks()).contains(&number) {
+            Some(Block { number })
+        } else {
+            None
+        }
     }
 
-    // Whether a call may be about a block: the line is laid, and has it.
-    pub(crate) fn check_block(&self, block: u32) -> Result<(), Refusal>
-        ensures row { result ≡ outcome (topmost
-            (not_laid (trackless self.now) ∷ no_block (trackless self.now) block ∷ [])) }
-        ensures block { OnOk result ((1 ≤ block) × (block ≤ 16)) }
+    // The block that a call may be about: the line is laid, and has it.
+    pub(crate) fn check_block(&self, number: u32) -> Result<Block, Refusal>
+        ensures { result_map_both (λ block. block.number) (λ refusal. refusal) result
+            ≡ answer (topmost
+            (not_laid (trackless self.now) ∷ no_block (trackless self.now) number ∷ [])) number }
     {
         self.laid()?;
-        if !self.is_block(block) {
-            return Err(Refusal::NoSection);
-        }
-        Ok(())
+        self.block(number).ok_or(Refusal::NoSection)
     }
 
-    // Whether a slip that bears these numbers may be handed in.
-    pub(crate) fn check_hand_in(&self, number: u32, block: u32) -> Result<(), Refusal>
-        ensures row { result ≡ answer
-            (verdict nothing_shown (trackless self.now) (hand_in number block)) tt }
-        ensures block { OnOk result ((1 ≤ block) × (block ≤ 16)) }
+    // The block that a slip with these numbers may be handed in for.
+    pub(crate) fn check_hand_in(&self, number: u32, block: u32) -> Result<Block, Refusal>
+        ensures { result_map_both (λ block. block.number) (λ refusal. refusal) result
+            ≡ answer (verdict nothing_shown (trackless self.now) (hand_in number block)) block }
     {
-        self.check_block(block)?;
-        if number != self.number() || !self.closed_at(block) {
+        let block = self.check_block(block)?;
+        if number != self.numbers().number || !self.closed_at(block.number) {
             return Err(Refusal::StrangeSlip);
         }
-        Ok(())
+        Ok(block)
     }
 
     pub(crate) fn closed_at(&self, section: u32) -> bool
@@ -49,11 +52,9 @@ impl Frame {
         self.closed.get(place).copied().unwrap_or(false)
     }
 
-    pub(crate) fn put_closed(&mut self, block: u32, closed: bool)
-        requires low { 1 ≤ block }
-        requires high { block ≤ 16 }
-        ensures { Becomes (λ line. with_closed line block closed) self.old self.new }
+    pub(crate) fn put_closed(&mut self, block: Block, closed: bool)
+        ensures { Becomes (λ line. with_closed line block.number closed) self.old self.new }
     {
-        self.closed[(block - 1) as usize] = closed;
+        self.closed[(block.number - 1) as usize] = closed;
     }
 }

@@ -18,6 +18,14 @@ const NORMAL: Levers = Levers {
     home: 0,
 };
 
+const BARE: Laying = Laying {
+    number: 0,
+    blocks: 0,
+    roads_a: 0,
+    roads_b: 0,
+    reach: 0,
+};
+
 impl Frame {
     // Bare, no train, both stations receive, starters and homes normal.
     pub(crate) fn new(heap: Global) -> Result<Self, AllocError>
@@ -61,33 +69,29 @@ impl Frame {
         Station::try_from(number)
     }
 
-    pub(crate) fn number(&self) -> u32
-        ensures { result ≡ (laying_of (trackless self.now)).number }
+    // The numbers of the laying, 0 each while the line is bare.
+    pub(crate) fn numbers(&self) -> Laying
+        ensures { result ≡ laying_of (trackless self.now) }
     {
-        self.laying.map_or(0, |laying| laying.number)
-    }
-
-    pub(crate) fn reach(&self) -> u32
-        ensures { result ≡ (laying_of (trackless self.now)).reach }
-    {
-        self.laying.map_or(0, |laying| laying.reach)
+        self.laying.unwrap_or(BARE)
     }
 
     pub(crate) fn blocks(&self) -> u32
         ensures is { result ≡ blocks (trackless self.now) }
         ensures few { result ≤ 16 }
     {
-        self.laying.map_or(0, |laying| laying.blocks)
+        self.numbers().blocks
     }
 
     pub(crate) fn roads(&self, station: Station) -> u32
         ensures is { result ≡ roads (trackless self.now) station }
         ensures few { result ≤ 4 }
     {
-        self.laying.map_or(0, |laying| match station {
-            Station::EndA => laying.roads_a,
-            Station::EndB => laying.roads_b,
-        })
+        let numbers = self.numbers();
+        match station {
+            Station::EndA => numbers.roads_a,
+            Station::EndB => numbers.roads_b,
+        }
     }
 
     // The last road of a station.

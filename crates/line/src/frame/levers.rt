@@ -75,6 +75,7 @@ impl Frame {
             .any(|train| train.from == other && train.front == place)
     }
 
+    // Which lever it is comes with the call, so the two questions are cases of it.
     fn is_held(&self, lever: Lever, station: Station) -> bool
         ensures { result ≡ lever_held lever (trackless self.now) station }
     {

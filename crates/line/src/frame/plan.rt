@@ -1,5 +1,5 @@
 // The plan: the metres and the names of the sections in use.
-ghost use Rattle.std.specs.Prelude.{◌≡◌, ◌+◌, ◌≤◌, true, length, vec_capacity, sum_by};
+ghost use Rattle.std.specs.Prelude.{◌≡◌, ◌+◌, ◌≤◌, ◌&&◌, true, length, vec_capacity, sum_by};
 ghost use Rattle.std.specs.List.{list_all};
 ghost use Rattle.rules.specs.Calls.{legal_laying, legal_entry, legal_entries, has_name, names_differ, legal_plan};
 ghost use Rattle.rules.specs.Calls.{as_laid};
@@ -19,8 +19,13 @@ const MOST_ROADS: u32 = 4;
 // The highest number that a line, a name, a train may bear.
 pub(crate) const MOST_NUMBER: u32 = 9_999;
 
+// The limits of the length of a section.
+const FEWEST_METRES: u32 = 100;
+
+const MOST_METRES: u32 = 9_999;
+
 // The limits of the numbers that a line is laid with.
-pub(crate) fn legal_laying(laying: Laying) -> bool
+fn legal_laying(laying: Laying) -> bool
     ensures { result ≡ legal_laying laying }
 {
     (1..=MOST_BLOCKS as u32).contains(&laying.blocks)
@@ -33,7 +38,7 @@ pub(crate) fn legal_laying(laying: Laying) -> bool
 fn legal_entry(entry: &PlanEntry) -> bool
     ensures { result ≡ legal_entry entry.now }
 {
-    (1..=MOST_NUMBER).contains(&entry.name) && (100..=9_999).contains(&entry.metres)
+    (1..=MOST_NUMBER).contains(&entry.name) && (FEWEST_METRES..=MOST_METRES).contains(&entry.metres)
 }
 
 fn legal_entries(plan: &[PlanEntry]) -> bool
@@ -57,13 +62,14 @@ fn names_differ(plan: &[PlanEntry]) -> bool
     }
 }
 
-// An entry for each section in use, with its own name.
-pub(crate) fn legal_plan(laying: Laying, plan: &[PlanEntry]) -> bool
-    requires { legal_laying laying ≡ true }
-    ensures { result ≡ legal_plan laying plan.now }
+// Numbers within their limits, and an entry for each section in use, with its own name.
+pub(crate) fn legal_to_lay(laying: Laying, plan: &[PlanEntry]) -> bool
+    ensures { result ≡ (legal_laying laying && legal_plan laying plan.now) }
 {
-    let sections = laying.blocks + laying.roads_a + laying.roads_b;
-    plan.len() == sections as usize && legal_entries(plan) && names_differ(plan)
+    legal_laying(laying)
+        && plan.len() == (laying.blocks + laying.roads_a + laying.roads_b) as usize
+        && legal_entries(plan)
+        && names_differ(plan)
 }
 
 // The plan copied into memory that is there, entry by entry: what copies a whole slice into a Vec may ask for memory.
@@ -78,7 +84,7 @@ fn copy(into: &mut Vec<PlanEntry>, plan: &[PlanEntry])
     }
 }
 
-// A loop adds them up, as the rules have it.
+// A loop over the plan's part, as docs/DECISIONS.md has the form of a signal's metres.
 fn sum_metres(part: &[PlanEntry]) -> u32
     requires kept { list_all entry_kept part.now ≡ true }
     requires few { length part.now ≤ 24 }
@@ -94,8 +100,7 @@ fn sum_metres(part: &[PlanEntry]) -> u32
 impl Frame {
     pub(crate) fn lay(&mut self, laying: Laying, plan: &[PlanEntry])
         requires bare { bare (trackless self.old) ≡ true }
-        requires numbers { legal_laying laying ≡ true }
-        requires entries { legal_plan laying plan.now ≡ true }
+        requires legal { (legal_laying laying && legal_plan laying plan.now) ≡ true }
         ensures { Becomes (λ line. as_laid line laying plan.now)
             self.old self.new }
     {

@@ -23,7 +23,7 @@ pub(crate) struct Signal {
 }
 
 impl Frame {
-    pub(crate) fn has_signal(&self, station: Station, place: u32) -> bool
+    fn has_signal(&self, station: Station, place: u32) -> bool
         ensures { result ≡ has_signal (trackless self.now) station place }
     {
         match station {
@@ -32,25 +32,30 @@ impl Frame {
         }
     }
 
-    pub(crate) fn distance_to(&self, station: Station, place: u32) -> u32
-        ensures { result ≡ distance_to (trackless self.now) station place }
+    // The signal that guards a place, for trains from a station, where there is one.
+    pub(crate) fn signal(&self, station: Station, place: u32) -> Option<Signal>
+        ensures is { is_some result ≡ has_signal (trackless self.now) station place }
+        ensures same { IfSome result (λ at. (at.station ≡ station)
+            × (at.distance ≡ distance_to (trackless self.now) station place)) }
     {
-        place_from(self.blocks(), station, place)
+        if self.has_signal(station, place) {
+            Some(Signal {
+                station,
+                distance: place_from(self.blocks(), station, place),
+            })
+        } else {
+            None
+        }
     }
 
+    // The same for a station by its number, on a line that is laid.
     pub(crate) fn check_signal(&self, station: u32, place: u32) -> Result<Signal, Refusal>
         ensures { result_map_both (λ at. (at.station, at.distance)) (λ refusal. refusal) result
             ≡ answer (verdict nothing_shown (trackless self.now) (ask_signal station place))
             (signal_at (trackless self.now) station place) }
     {
         let station = self.station(station)?;
-        if !self.has_signal(station, place) {
-            return Err(Refusal::NoSection);
-        }
-        Ok(Signal {
-            station,
-            distance: self.distance_to(station, place),
-        })
+        self.signal(station, place).ok_or(Refusal::NoSection)
     }
 
     // The section of a number, where it is in use.
@@ -58,7 +63,7 @@ impl Frame {
         ensures is { is_some result ≡ in_use (trackless self.now) number }
         ensures same { IfSome result (λ section. section.number ≡ number) }
     {
-        if self.is_block(number)
+        if self.block(number).is_some()
             || self.last_road(Station::EndA).reaches(number)
             || self.last_road(Station::EndB).reaches(number)
         {

@@ -31,10 +31,7 @@ pub(crate) struct Move {
 pub(crate) fn legal_card(number: u32, axles: u32) -> bool
     ensures { result ≡ (within 1 9999 number && legal_axles axles) }
 {
-    matches!(
-        (number, axles),
-        (1..=MOST_NUMBER, FEWEST_AXLES..=MOST_AXLES)
-    )
+    (1..=MOST_NUMBER).contains(&number) && (FEWEST_AXLES..=MOST_AXLES).contains(&axles)
 }
 
 // A train that stands in a road.

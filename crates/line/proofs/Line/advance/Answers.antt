@@ -9,24 +9,18 @@ abbrev told : Move → TrackCall
 told move = Enter move.section move.axles
 
 pub returns-in_err-moved : goal.returns-in_err-moved
-returns-in_err-moved g c = record {
-  ends = ends_turned_down (g.met.L.Lamps.stops _) (g.met.L.Lamps.proceeds _) g.met.T.Track.marked
-      _ c.from_residual.ensures.1 c.in_err-moved.ensures.row;
-  lamps = refl;
-}
+returns-in_err-moved g c =
+    ends_turned_down g.met.L.Lamps.stops g.met.L.Lamps.proceeds g.met.T.Track.marked
+    _ c.from_residual.ensures.1 c.in_err-moved.ensures.row
 
 pub returns-in_err-enter : goal.returns-in_err-enter
-returns-in_err-enter g c = record {
-  ends = ends_at_track (g.met.L.Lamps.stops _) (g.met.L.Lamps.proceeds _) g.met.T.Track.marked
-      told c.args.self.now.frame _ _ _ c.in_ok-moved.ensures.row refl refl _
-      c.from_residual-in_err-enter.ensures.1 c.in_err-enter.ensures.answer c.in_err-enter.ensures.after;
-  lamps = refl;
-}
+returns-in_err-enter g c =
+    ends_at_track g.met.L.Lamps.stops g.met.L.Lamps.proceeds g.met.T.Track.marked
+    told _ _ c.in_ok-moved.ensures.row refl refl
+    c.from_residual-in_err-enter.ensures.1 c.in_err-enter.ensures.answer c.in_err-enter.ensures.after
 
 pub returns : goal.returns
-returns g c = record {
-  ends = ends_by_track (g.met.L.Lamps.stops _) (g.met.L.Lamps.proceeds _) g.met.T.Track.marked
-      told c.args.self.now.frame _ _ _ c.in_ok-moved.ensures.row refl refl
-      c.in_ok-enter.ensures.answer (λ is. c.put_train.ensures _ ∙ rw (c.in_ok-enter.ensures.after, is) refl);
-  lamps = refl;
-}
+returns g c =
+    ends_by_track g.met.L.Lamps.stops g.met.L.Lamps.proceeds g.met.T.Track.marked
+    told _ _ c.in_ok-moved.ensures.row refl refl
+    c.in_ok-enter.ensures.answer (λ is. c.put_train.ensures _ ∙ rw (c.in_ok-enter.ensures.after, is) refl)

@@ -10,8 +10,8 @@ use Rattle.line.proofs.Clear.{run_counted}
 use Rattle.line.proofs.Ranges.{YieldsList-from_inclusive}
 use Rattle.line.proofs.Line.run_ahead.Goals as goal
 
-pub returns-clause-is : goal.returns-clause-is
-returns-clause-is g c =
+pub returns : goal.returns
+returns g c =
     let at = c.args.at in
     let line = world g.T.Track.cells c.args.self.now in
     let is_clear = λ (k : ℕ). clear line (place_from (blocks line) at.station k) in

@@ -13,4 +13,4 @@ returns g c =
     let met = passed _ _ _ c.in_ok-at.ensures in
     let station = ap (λ s. s.0) met.1 in
     let distance = ap (λ s. s.1) met.1 in
-    rw (c.aspect_at.ensures, c.count_at.ensures.is, station, distance) (answered _ _ met.0)
+    rw (c.aspect_at.ensures, c.count_at.ensures, station, distance) (answered _ _ met.0)

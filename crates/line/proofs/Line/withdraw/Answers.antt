@@ -9,24 +9,18 @@ abbrev told : Move → TrackCall
 told move = Leave move.section move.axles
 
 pub returns-in_err-gone : goal.returns-in_err-gone
-returns-in_err-gone g c = record {
-  ends = ends_turned_down (g.met.L.Lamps.stops _) (g.met.L.Lamps.proceeds _) g.met.T.Track.marked
-      _ c.from_residual.ensures.1 c.in_err-gone.ensures.row;
-  lamps = refl;
-}
+returns-in_err-gone g c =
+    ends_turned_down g.met.L.Lamps.stops g.met.L.Lamps.proceeds g.met.T.Track.marked
+    _ c.from_residual.ensures.1 c.in_err-gone.ensures.row
 
 pub returns-in_err-leave : goal.returns-in_err-leave
-returns-in_err-leave g c = record {
-  ends = ends_at_track (g.met.L.Lamps.stops _) (g.met.L.Lamps.proceeds _) g.met.T.Track.marked
-      told c.args.self.now.frame _ _ _ c.in_ok-gone.ensures.row refl refl _
-      c.from_residual-in_err-leave.ensures.1 c.in_err-leave.ensures.answer c.in_err-leave.ensures.after;
-  lamps = refl;
-}
+returns-in_err-leave g c =
+    ends_at_track g.met.L.Lamps.stops g.met.L.Lamps.proceeds g.met.T.Track.marked
+    told _ _ c.in_ok-gone.ensures.row refl refl
+    c.from_residual-in_err-leave.ensures.1 c.in_err-leave.ensures.answer c.in_err-leave.ensures.after
 
 pub returns : goal.returns
-returns g c = record {
-  ends = ends_by_track (g.met.L.Lamps.stops _) (g.met.L.Lamps.proceeds _) g.met.T.Track.marked
-      told c.args.self.now.frame _ _ _ c.in_ok-gone.ensures.row refl refl
-      c.in_ok-leave.ensures.answer (λ is. c.remove_train.ensures _ ∙ rw (c.in_ok-leave.ensures.after, is) refl);
-  lamps = refl;
-}
+returns g c =
+    ends_by_track g.met.L.Lamps.stops g.met.L.Lamps.proceeds g.met.T.Track.marked
+    told _ _ c.in_ok-gone.ensures.row refl refl
+    c.in_ok-leave.ensures.answer (λ is. c.remove_train.ensures _ ∙ rw (c.in_ok-leave.ensures.after, is) refl)
