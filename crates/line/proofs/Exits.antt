@@ -34,10 +34,6 @@ not_answered v x value refusal h = sym (ap (λ w. answer w value) (stopped v x r
 pub answered : {R : Type 0} (v : Option Refusal) (value : R) → v ≡ None → Ok value ≡ answer v value
 answered v value none = sym (ap (λ w. answer w value) none)
 
-pub untouched : {X : Type 0} (v : Option Refusal) (refusal : Refusal) (old new : X) → v ≡ Some refusal
-    → old ≡ after v old new
-untouched v refusal old new met = sym (ap (λ w. after w old new) met)
-
 -- the row of a list of rows is that of its front, and where its front has none that of the rest
 pub row_in_front : (front rest : List Row) (refusal : Refusal) → topmost front ≡ Some refusal
     → topmost (front ++ rest) ≡ Some refusal

@@ -1,12 +1,11 @@
 -- The metres of blocks one after the other are those of a part of the plan, whichever way they are counted.
-use Rattle.std.proofs.Common.{◌≡◌, ℕ, zero, suc, ◌+◌, ◌-◌, ◌<◌, ◌≤◌, List, length, get_or, take, drop}
+use Rattle.std.proofs.Common.{◌≡◌, ℕ, zero, suc, ◌+◌, ◌-◌, ◌≤◌, List, length, get_or, take, drop}
 use Rattle.std.proofs.Common.{sum_by, sym, refl, ap, ◌∙◌, add-one, arith, length-drop}
 use Rattle.std.proofs.lemmas.List.{get_or-drop, at_drop_more}
 use Rattle.std.proofs.lemmas.List.Sums.{sum_by-cons, sum_by_more}
-use Rattle.std.proofs.lemmas.Bool.{le-leb, lt-leb, ne_eqb, cond-true, cond-false}
-use Rattle.rules.specs.Lines.{Line, blocks, levers_at}
-use Rattle.rules.specs.Signals.{metres_from, metres_of_entry, metres_at, count_at, home_count, road_index}
-use Rattle.rules.specs.Stations.{other_end}
+use Rattle.std.proofs.lemmas.Bool.{le-leb, cond-true}
+use Rattle.rules.specs.Lines.{Line, blocks}
+use Rattle.rules.specs.Signals.{metres_from, metres_of_entry, metres_at, count_at}
 use Rattle.rules.specs.declared.line.PlanEntry.{PlanEntry}
 use Rattle.rules.specs.declared.line.Station.{Station}
 use Rattle.rules.specs.declared.line.Station.TheVariants.{EndA, EndB}
@@ -56,9 +55,3 @@ metres_of_part line EndB d c low high long =
 pub metres_before_block : (line : Line) (station : Station) (d : ℕ) → d ≤ blocks line
     → metres_at line station d ≡ metres_from line station d (count_at line station d)
 metres_before_block line station d short = cond-true _ _ _ (le-leb d (blocks line) short)
-
-pub metres_before_home : (line : Line) (station : Station) (d : ℕ) → blocks line < d → (home_count line station ≡ 0 → ⊥)
-    → metres_at line station d
-    ≡ metres_of_entry line (road_index line (other_end station) (levers_at line (other_end station)).home)
-metres_before_home line station d far cleared =
-    cond-false _ _ _ (lt-leb d (blocks line) far) ∙ cond-false _ _ _ (ne_eqb (home_count line station) 0 cleared)

@@ -15,6 +15,7 @@ pub(crate) struct Frame {
     laying: Option<Laying>,
     plan: Vec<PlanEntry>,
     trains: Vec<Train>,
+    // Named for the two stations, as the line of the rules has them.
     at_a: Levers,
     at_b: Levers,
     // For each block, whether a slip is out on it.

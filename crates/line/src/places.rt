@@ -11,7 +11,8 @@ const BEFORE_ROADS_A: u32 = 16;
 
 const BEFORE_ROADS_B: u32 = 20;
 
-// The place that is so many places on from a station, on a line of so many blocks.
+// The place that is so many places on from a station, on a line of so many blocks. That these are at most 16 is asked
+// here alone: a number of blocks is read off a laying, whose limits a line keeps.
 pub(crate) fn place_from(blocks: u32, station: Station, distance: u32) -> u32
     requires { blocks ≤ 16 }
     ensures { result ≡ place_from blocks station distance }

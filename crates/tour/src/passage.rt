@@ -11,7 +11,7 @@ const AXLES: u32 = 8;
 
 const OTHER_AXLES: u32 = 12;
 
-#[derive(Clone, Copy, Debug)]
+#[derive(Clone, Copy, PartialEq, Eq, Debug)]
 pub struct Step {
     pub note: &'static str,
     pub call: TrackCall,

@@ -18,6 +18,7 @@ const NORMAL: Levers = Levers {
     home: 0,
 };
 
+// A bare line has no blocks and no roads, as the rules' definition has it: what is asked of them needs no case for it.
 const BARE: Laying = Laying {
     number: 0,
     blocks: 0,

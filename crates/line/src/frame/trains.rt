@@ -18,7 +18,8 @@ use rules::detection::{FEWEST_AXLES, MOST_AXLES};
 use rules::line::{Station, Train};
 use rules::refusal::Refusal;
 
-// What a call of a train comes to: which train, the section and the axles that the track is told, and the train then.
+// What a call of a train comes to, as specs/Moves.antt has it: which train, the section and the axles that the track is
+// told, and the train then.
 #[derive(Clone, Copy)]
 pub(crate) struct Move {
     pub(crate) index: usize,

@@ -1,7 +1,7 @@
-use Rattle.std.proofs.Common.{◌<◌, ◌≤◌, sym, ◌∙◌, arith}
+use Rattle.std.proofs.Common.{◌≤◌, sym, ◌∙◌, arith}
 use Rattle.rules.specs.Lines.{blocks}
 use Rattle.line.specs.Worlds.{world}
-use Rattle.line.proofs.Metres.{metres_before_block, metres_before_home}
+use Rattle.line.proofs.Metres.{metres_before_block}
 use Rattle.line.proofs.Clear.{count_short}
 use Rattle.line.proofs.Line.metres_at.Goals as goal
 
@@ -17,12 +17,3 @@ returns-then-at-blocks g c =
     let short : c.args.at.distance ≤ blocks line = omega (arith, c.blocks-2.ensures.is) in
     c.block_metres.ensures
     ∙ rw c.count_at.ensures (sym (metres_before_block line c.args.at.station c.args.at.distance short))
-
-pub returns : goal.returns
-returns g c =
-    let line = world g.T.Track.cells c.args.self.now in
-    let far : blocks line < c.args.at.distance = omega (arith, c.blocks-2.ensures.is) in
-    c.road_metres.ensures
-    ∙ rw (c.home_road.ensures.station, c.home_road.ensures.number, c.other-far.ensures)
-    (sym (metres_before_home line c.args.at.station c.args.at.distance far
-    (λ none. c.if-home_count-eq0.false (c.home_count.ensures ∙ none))))

@@ -1,8 +1,0 @@
-use Rattle.std.proofs.lemmas.Result.{err_from_is_err_and}
-use Rattle.line.proofs.Exits.{not_answered}
-use Rattle.line.proofs.Line.painted.Goals as goal
-
-pub returns-in_err-check_paint : goal.returns-in_err-check_paint
-returns-in_err-check_paint g c =
-    let p = err_from_is_err_and c.from_residual.result c.from_residual.ensures.1 in
-    rw (p.1, p.2) (not_answered _ _ _ _ c.in_err-check_paint.ensures.row)
