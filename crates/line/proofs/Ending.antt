@@ -20,7 +20,8 @@ use Rattle.line.specs.Works.{Works}
 use Rattle.line.specs.Worlds.{world}
 use Rattle.line.specs.declared.Line.{Line as Built}
 use Rattle.line.specs.declared.frame.Frame.{Frame}
-use Rattle.line.proofs.Exits.{Exactly, passed, rules_turn_down, carried_out, no_room_left, track_turns_down, track_takes}
+use Rattle.line.proofs.Exits.{Exactly, passed, rules_turn_down, carried_out, no_room_left}
+use Rattle.line.proofs.Exits.{track_turns_down, track_takes}
 use Rattle.line.proofs.Histories.{ends_so}
 
 -- the rules tell the track what a check that found no row came to

@@ -36,8 +36,8 @@ impl<T: Track, L: Lamps> Line<T, L> {
         self.track.is_vacant(section.number) && !self.frame.closed_at(section.number)
     }
 
-    // The block so many places on from a station is clear. It takes no Signal: the run asks it from within a closure, where
-    // none can be made without asking the same of the closure.
+    // The block so many places on from a station is clear. It takes no Signal: the run asks it from within a closure,
+    // where none can be made without asking the same of the closure.
     fn is_clear_ahead(&self, station: Station, distance: u32) -> bool
         requires low { 1 ≤ distance }
         requires high { distance ≤ blocks (world T.cells self.now) }

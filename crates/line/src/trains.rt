@@ -38,8 +38,8 @@ impl<T: Track, L: Lamps> Line<T, L> {
         Ok(())
     }
 
-    // Withdrawing, follow and advance differ in the check, in what the track is told, or in what becomes of the train: one
-    // function over them would take two closures for its three lines.
+    // Withdrawing, follow and advance differ in the check, in what the track is told, or in what becomes of the train:
+    // one function over them would take two closures for its three lines.
 
     // Takes a train that stands in a road off the line.
     pub fn withdraw(&mut self, number: u32) -> Result<(), Refusal>
