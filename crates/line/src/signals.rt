@@ -58,11 +58,11 @@ impl<T: Track, L: Lamps> Line<T, L> {
             .count() as u32
     }
 
-    // Every block, from A to B.
+    // Every block, from A to B. A range that took its last number in would cost as much again at each block.
     pub(crate) fn line_clear(&self) -> bool
         ensures { result ≡ all_clear (world T.cells self.now) (blocks (world T.cells self.now)) }
     {
-        (1..=self.frame.blocks()).all(|block| self.is_clear_ahead(Station::EndA, block))
+        (1..self.frame.blocks() + 1).all(|block| self.is_clear_ahead(Station::EndA, block))
     }
 
     fn starter_count(&self, station: Station) -> u32

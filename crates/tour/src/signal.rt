@@ -1,9 +1,10 @@
 // The signal that guards block 1: what is clear ahead of it, and what its lamps show.
-ghost use Rattle.std.specs.Prelude.{◌≡◌, ◌^◌, ◌<◌, sum};
+ghost use Rattle.std.specs.Prelude.{◌≡◌, ◌+◌, ◌-◌, ◌^◌, ◌<◌, sum};
 ghost use Rattle.tour.specs.Ahead.{vacant_from, metres_of, heads_show};
 
 use lamps::{CabSignal, Lamps};
 use rules::aspect::{Aspect, LampSet};
+use std::ops::Range;
 use track::Track;
 
 // The stretch of the tour has blocks 1 to 3.
@@ -16,9 +17,18 @@ const LENGTHS: [u32; 3] = [100, 150, 250];
 pub fn vacant_ahead<T: Track>(track: &T, sections: u32) -> u32
     ensures { result ≡ vacant_from (T.cells track.now) 1 sections }
 {
-    (0..sections)
-        .find(|&passed| !track.is_vacant(passed + 1))
-        .unwrap_or(sections)
+    vacant_after(track, 0..sections)
+}
+
+// How many of the sections that follow the numbers of a range, from its first number on.
+fn vacant_after<T: Track>(track: &T, mut passed: Range<u32>) -> u32
+    ensures { result ≡ vacant_from (T.cells track.now) (passed.start + 1) (passed.end - passed.start) }
+{
+    let Range { start, end } = passed;
+    passed
+        .find(|&at| !track.is_vacant(at + 1))
+        .unwrap_or(end)
+        .saturating_sub(start)
 }
 
 // Their sum, where it fits.

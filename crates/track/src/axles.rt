@@ -57,6 +57,14 @@ impl AxleCounter {
     pub fn new() -> Self
         ensures { counter_cells result ≡ new_cells }
     {
+        Self::blank()
+    }
+
+    // Every cell empty: none that counts, not even 0 axles.
+    fn blank() -> Self
+        ensures counts { result.counts ≡ replicate 24 Empty }
+        ensures order { result.out_of_order ≡ replicate 24 false }
+    {
         AxleCounter {
             counts: [AxleCell::Empty; CELLS],
             out_of_order: [false; CELLS],

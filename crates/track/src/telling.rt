@@ -13,6 +13,14 @@ pub fn tell<T: Track>(track: &mut T, call: TrackCall) -> TrackAnswer
     ensures after { T.cells track.new ≡ track_after T.mark (T.cells track.old) call }
     ensures history { GoesOn T.mark (T.cells track.old) call (T.cells track.new) }
 {
+    pass_on(track, call)
+}
+
+// The same without the history, which is said of all calls at once: each arm is then proved without a file.
+fn pass_on<T: Track>(track: &mut T, call: TrackCall) -> TrackAnswer
+    ensures answer { result ≡ track_answer T.mark (T.cells track.old) call }
+    ensures after { T.cells track.new ≡ track_after T.mark (T.cells track.old) call }
+{
     match call {
         TrackCall::State { section } => track.state(section).into(),
         TrackCall::Enter { section, axles } => track.enter(section, axles).into(),

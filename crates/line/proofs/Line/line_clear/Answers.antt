@@ -1,17 +1,16 @@
 use Rattle.std.proofs.Common.{rules, ◌∙◌, refl, arith}
 use Rattle.std.proofs.lemmas.Iterator.Search.{all_from_yields_List}
+use Rattle.std.proofs.lemmas.Iterator.{YieldsList-from_range}
 use Rattle.rules.specs.Calls.{all_clear}
 use Rattle.rules.specs.Lines.{blocks, clear}
 use Rattle.line.specs.Worlds.{world}
-use Rattle.line.proofs.Ranges.{YieldsList-from_inclusive, all_down}
+use Rattle.line.proofs.Ranges.{all_down}
 use Rattle.line.proofs.Line.line_clear.Goals as goal
 
 pub returns : goal.returns
 returns g c =
     let line = world g.T.Track.cells c.args.self.now in
-    let range = c.new.ensures in
     all_from_yields_List (clear line) _ _ c.all.result c.all.ensures.ran
-    (YieldsList-from_inclusive 1 (blocks line) (blocks line) range.start (range.end ∙ c.blocks-2.ensures.is)
-    range.exhausted (omega arith))
+    (YieldsList-from_range 1 _ (blocks line) refl (omega arith))
     (λ x b q k. search rules)
     ∙ all_down (clear line) (all_clear line) refl (λ n. refl) (blocks line)

@@ -1,12 +1,12 @@
 use Rattle.std.proofs.Common.{◌≡◌, ℕ, zero, suc, ◌+◌, ◌-◌, ◌<◌, ◌≤◌, true, false}
-use Rattle.std.proofs.Common.{List, Some, None, Option, MatchOption, ◌∙◌, inl, inr, rules, arith}
+use Rattle.std.proofs.Common.{List, Some, None, Option, MatchOption, ◌∙◌, inl, inr, refl, rules, arith}
 use Rattle.std.specs.Option.{unwrap_or}
 use Rattle.std.proofs.lemmas.Iterator.{first_from_Range}
-use Rattle.std.proofs.lemmas.Bool.{cases_eq}
+use Rattle.std.proofs.lemmas.Bool.{cases_eq, cases_lt}
 use Rattle.rules.specs.declared.detection.Cell.{Cell}
 use Rattle.track.specs.Cells.{reads_vacant}
 use Rattle.tour.specs.Ahead.{vacant_from}
-use Rattle.tour.proofs.signal.vacant_ahead.Goals as goal
+use Rattle.tour.proofs.signal.vacant_after.Goals as goal
 
 -- from the section after so many on, the count ends at the first that is not vacant, or past the last
 ends_at : (cells : List Cell) (at n end : ℕ) → at ≤ end → end ≤ at + n
@@ -27,26 +27,33 @@ ends_at cells at (suc n) end low high before here =
           ))
     ]
 
--- what a search of the range answers, where the range begins at 0
-ends_found : (cells : List Cell) (low n : ℕ) (found : Option ℕ) → low ≡ 0
-    → MatchOption found ((k : ℕ) → low ≤ k → k < n → reads_vacant cells (k + 1) ≡ true)
-    (λ i. (low ≤ i) × (i < n) × (reads_vacant cells (i + 1) ≡ false)
+-- what a search of the range answers: the count ends where it ends
+ends_found : (cells : List Cell) (low high : ℕ) (found : Option ℕ)
+    → MatchOption found ((k : ℕ) → low ≤ k → k < high → reads_vacant cells (k + 1) ≡ true)
+    (λ i. (low ≤ i) × (i < high) × (reads_vacant cells (i + 1) ≡ false)
     × ((k : ℕ) → low ≤ k → k < i → reads_vacant cells (k + 1) ≡ true))
-    → unwrap_or found n ≡ vacant_from cells 1 n
-ends_found cells low n None start all =
+    → unwrap_or found high - low ≡ vacant_from cells (low + 1) (high - low)
+ends_found cells low high None all =
+    elim (cases_lt low high) [
+      | inl l ↦
+          omega (
+            arith,
+            ends_at cells low (high - low) high (omega arith) (omega arith) all (λ u. absurd (omega arith)),
+          )
+      | inr g ↦ (let e : high - low ≡ 0 = omega arith in rw e refl)
+    ]
+ends_found cells low high (Some i) h =
     omega (
       arith,
-      ends_at cells 0 n n (omega arith) (omega arith) (λ k l u. all k (omega arith) u)
-          (λ u. absurd (omega arith)),
+      ends_at cells low (high - low) i h.0 (omega (arith, h.1)) h.3 (λ u. h.2),
     )
-ends_found cells low n (Some i) start h =
-    omega (arith, ends_at cells 0 n i (omega arith) (omega (arith, h.1)) (λ k l u. h.3 k (omega arith) u) (λ u. h.2))
 
 pub returns : goal.returns
 returns g c =
     let cells = g.T.Track.cells c.args.track.now in
-    c.unwrap_or.ensures
-    ∙ ends_found cells _ c.args.sections c.find.result (omega arith)
+    c.saturating_sub.ensures
+    ∙ rw c.unwrap_or.ensures
+    (ends_found cells c.args.passed.start c.args.passed.end c.find.result
     (first_from_Range _ _ _ c.find.result (λ k. reads_vacant cells (k + 1) ≡ false)
     (λ k. reads_vacant cells (k + 1) ≡ true) c.find.ensures.ran (λ x q called. search rules)
-    (λ x q called. search rules))
+    (λ x q called. search rules)))
