@@ -49,16 +49,17 @@ impl<T: Track, L: Lamps> Line<T, L> {
         })
     }
 
-    // How many blocks are clear one after the other ahead of a signal.
+    // How many blocks are clear one after the other ahead of a signal. A range that takes its last number in would cost
+    // more at each block, here and for a clear line.
     fn run_ahead(&self, at: Signal) -> u32
         ensures { result ≡ run_ahead (world T.cells self.now) at.station at.distance }
     {
-        (at.distance..=self.frame.blocks())
+        (at.distance..self.frame.blocks() + 1)
             .take_while(|&distance| self.is_clear_ahead(at.station, distance))
             .count() as u32
     }
 
-    // Every block, from A to B. A range that took its last number in would cost as much again at each block.
+    // Every block, from A to B.
     pub(crate) fn line_clear(&self) -> bool
         ensures { result ≡ all_clear (world T.cells self.now) (blocks (world T.cells self.now)) }
     {

@@ -1,5 +1,5 @@
 // The signal that guards block 1: what is clear ahead of it, and what its lamps show.
-ghost use Rattle.std.specs.Prelude.{◌≡◌, ◌+◌, ◌-◌, ◌^◌, ◌<◌, sum};
+ghost use Rattle.std.specs.Prelude.{◌≡◌, ◌+◌, ◌-◌, ◌^◌, ◌<◌, min, sum};
 ghost use Rattle.tour.specs.Ahead.{vacant_from, metres_of, heads_show};
 
 use lamps::{CabSignal, Lamps};
@@ -17,18 +17,16 @@ const LENGTHS: [u32; 3] = [100, 150, 250];
 pub fn vacant_ahead<T: Track>(track: &T, sections: u32) -> u32
     ensures { result ≡ vacant_from (T.cells track.now) 1 sections }
 {
-    vacant_after(track, 0..sections)
+    vacant_to(track, 0..sections)
 }
 
-// How many of the sections that follow the numbers of a range, from its first number on.
-fn vacant_after<T: Track>(track: &T, mut passed: Range<u32>) -> u32
-    ensures { result ≡ vacant_from (T.cells track.now) (passed.start + 1) (passed.end - passed.start) }
+// The first number of a range whose next section is not vacant, or where the range ends.
+fn vacant_to<T: Track>(track: &T, mut passed: Range<u32>) -> u32
+    ensures { result ≡ min passed.start passed.end
+        + vacant_from (T.cells track.now) (passed.start + 1) (passed.end - passed.start) }
 {
-    let Range { start, end } = passed;
-    passed
-        .find(|&at| !track.is_vacant(at + 1))
-        .unwrap_or(end)
-        .saturating_sub(start)
+    let end = passed.end;
+    passed.find(|&at| !track.is_vacant(at + 1)).unwrap_or(end)
 }
 
 // Their sum, where it fits.

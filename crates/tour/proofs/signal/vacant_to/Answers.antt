@@ -1,4 +1,4 @@
-use Rattle.std.proofs.Common.{◌≡◌, ℕ, zero, suc, ◌+◌, ◌-◌, ◌<◌, ◌≤◌, true, false}
+use Rattle.std.proofs.Common.{◌≡◌, ℕ, zero, suc, ◌+◌, ◌-◌, ◌<◌, ◌≤◌, min, true, false}
 use Rattle.std.proofs.Common.{List, Some, None, Option, MatchOption, ◌∙◌, inl, inr, refl, rules, arith}
 use Rattle.std.specs.Option.{unwrap_or}
 use Rattle.std.proofs.lemmas.Iterator.{first_from_Range}
@@ -6,7 +6,7 @@ use Rattle.std.proofs.lemmas.Bool.{cases_eq, cases_lt}
 use Rattle.rules.specs.declared.detection.Cell.{Cell}
 use Rattle.track.specs.Cells.{reads_vacant}
 use Rattle.tour.specs.Ahead.{vacant_from}
-use Rattle.tour.proofs.signal.vacant_after.Goals as goal
+use Rattle.tour.proofs.signal.vacant_to.Goals as goal
 
 -- from the section after so many on, the count ends at the first that is not vacant, or past the last
 ends_at : (cells : List Cell) (at n end : ℕ) → at ≤ end → end ≤ at + n
@@ -32,7 +32,7 @@ ends_found : (cells : List Cell) (low high : ℕ) (found : Option ℕ)
     → MatchOption found ((k : ℕ) → low ≤ k → k < high → reads_vacant cells (k + 1) ≡ true)
     (λ i. (low ≤ i) × (i < high) × (reads_vacant cells (i + 1) ≡ false)
     × ((k : ℕ) → low ≤ k → k < i → reads_vacant cells (k + 1) ≡ true))
-    → unwrap_or found high - low ≡ vacant_from cells (low + 1) (high - low)
+    → unwrap_or found high ≡ min low high + vacant_from cells (low + 1) (high - low)
 ends_found cells low high None all =
     elim (cases_lt low high) [
       | inl l ↦
@@ -40,7 +40,7 @@ ends_found cells low high None all =
             arith,
             ends_at cells low (high - low) high (omega arith) (omega arith) all (λ u. absurd (omega arith)),
           )
-      | inr g ↦ (let e : high - low ≡ 0 = omega arith in rw e refl)
+      | inr g ↦ (let e : high - low ≡ 0 = omega arith in rw e (omega arith))
     ]
 ends_found cells low high (Some i) h =
     omega (
@@ -51,9 +51,8 @@ ends_found cells low high (Some i) h =
 pub returns : goal.returns
 returns g c =
     let cells = g.T.Track.cells c.args.track.now in
-    c.saturating_sub.ensures
-    ∙ rw c.unwrap_or.ensures
-    (ends_found cells c.args.passed.start c.args.passed.end c.find.result
+    c.unwrap_or.ensures
+    ∙ (ends_found cells c.args.passed.start c.args.passed.end c.find.result
     (first_from_Range _ _ _ c.find.result (λ k. reads_vacant cells (k + 1) ≡ false)
     (λ k. reads_vacant cells (k + 1) ≡ true) c.find.ensures.ran (λ x q called. search rules)
     (λ x q called. search rules)))
